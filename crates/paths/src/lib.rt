@@ -1,8 +1,9 @@
 // Paths as bytes: which are good, and when one is under another. Rests on nothing.
 // What a reader must believe stands in specs/Path.antt: `goodPath`, `names` and `under`.
-ghost use mathlib.Core.Bool.{not};
+ghost use mathlib.Core.List.{[]};
 ghost use mathlib.Core.Path.{_≡_};
-ghost use Rattle.paths.specs.Path.{plain, goodPath, under};
+ghost use lib.ListN.{drop};
+ghost use Rattle.paths.specs.Path.{plain, goodPath, ended, first, under};
 
 const SLASH: u8 = 47;
 
@@ -13,13 +14,11 @@ const LONGEST: usize = 64;
 fn is_plain(b: u8, policy: bool) -> bool
     ensures { λ r. ⌜ r ≡ plain policy b ⌝ }
 {
-    if b == 0 {
-        return false;
+    match b {
+        0 => false,
+        b'*' | b'?' | b'[' => !policy,
+        _ => true,
     }
-    if !policy {
-        return true;
-    }
-    b != b'*' && b != b'?' && b != b'['
 }
 
 // Whether `path` is a path of at most 64 bytes, each of which it may hold; `policy`: a path of a policy.
@@ -54,4 +53,35 @@ pub fn good_path(path: &[u8], policy: bool) -> bool
         }
     }
     !inside
+}
+
+// Whether no slash is in `s` from byte `from` on: no name ends there.
+fn no_slash(s: &[u8], from: usize) -> bool
+    ensures { λ r. ⌜ r ≡ first (ended (drop from (now (s .entry)))) [] ⌝ }
+{
+    let mut i = from;
+    while i < s.len() {
+        if s[i] == SLASH {
+            return false;
+        }
+        i += 1;
+    }
+    true
+}
+
+// Whether `p` is under `q`: from where their bytes part on, no name of `q` ends. The first byte is in no name.
+pub fn under(p: &[u8], q: &[u8]) -> bool
+    ensures { λ r. ⌜ r ≡ under (now (p .entry)) (now (q .entry)) ⌝ }
+{
+    let mut i = 1;
+    while i < q.len() {
+        if p.len() <= i {
+            return no_slash(q, i);
+        }
+        if p[i] != q[i] {
+            return no_slash(q, i);
+        }
+        i += 1;
+    }
+    true
 }
