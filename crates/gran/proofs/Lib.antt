@@ -1,0 +1,10 @@
+pub mod Lists
+pub mod Match
+pub mod Policies
+pub mod Free
+pub mod Step
+pub mod Run
+pub mod Facts
+pub mod Listing
+pub mod Answers
+pub mod Processes
