@@ -1,0 +1,6 @@
+pub mod Bytes
+pub mod Header
+pub mod Roles
+pub mod Paths
+pub mod Entries
+pub mod Again

@@ -1,0 +1,13 @@
+-- Rows that are found by how they begin: the same as a test of what the rows stand for.
+-- Assumes nothing.
+use mathlib.Core.Path.{_≡_, refl}
+use mathlib.Core.Bool.{Bool}
+use mathlib.Core.List.{List, [], _∷_, map}
+use Prim.Native.Nat.{ℕ}
+use Rattle.rows.specs.Rows.{beginsWith, hasRow}
+use Rattle.gran.specs.Lists.{any}
+
+pub has-row-any : {A : Type 0} (row : A → List ℕ) (test : A → Bool) (key : List ℕ) → ((x : A) → beginsWith key (row x) ≡ test x) → (xs : List A) → hasRow key (map row xs) ≡ any test xs
+unfolding hasRow
+has-row-any row test key e [] = refl
+has-row-any row test key e (x ∷ xs) = rw (e x, has-row-any row test key e xs)

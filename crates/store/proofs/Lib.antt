@@ -1,0 +1,8 @@
+pub mod Entries
+pub mod Regions
+pub mod Reading
+pub mod Finding
+pub mod Growing
+pub mod Few
+pub mod Holding
+pub mod Adding
