@@ -1,0 +1,103 @@
+-- `load::read_lines` meets its contract. The invariant is `Loading`: a load lies in the store, and the lines that are left decide.
+-- Assumes nothing.
+use borrow.Author.Needs.{needs}
+use mathlib.Core.Path.{_≡_, _∙_, refl}
+use Prim.Native.Nat.{_-_, _≤_}
+use native.Mathlib.Omega.{arith}
+use lib.ListN.{length, drop, length-drop}
+use Rattle.load.proofs.AllLines.{Loading, loading-begins, tail-is, loading-past, can-read, step-span, loading-goes-on, loading-stops, ends-short, ends-whole}
+use Rattle.load.proofs.read_lines.Statement.{statement}
+use Rattle.load.proofs.read_lines.Tie as tie
+
+abbrev Inv-loop : tie.InvT-loop
+Inv-loop text store₀ t₀ last₀ line₀ at₀ store t last line at = Loading text (drop 16384 store₀) store t last line at × (length store ≡ length store₀) × (16384 ≤ length store)
+
+abbrev μ-loop : tie.MeasureT-loop
+μ-loop text store₀ t₀ last₀ line₀ at₀ store t last line at = length text - at
+
+empty-requires : tie.Need-empty-requires Inv-loop μ-loop
+empty-requires c κs = search needs
+
+loop-holds : tie.Need-loop-holds Inv-loop μ-loop
+loop-holds c = (loading-begins (c .before .before .before .args .text .now) (c .before .before .before .args .store .now) (c .before .before .before .pre .0) _ (c .empty .ensures), refl, c .before .before .before .pre .1 .1)
+
+sub-read-line : tie.Need-sub-read-line Inv-loop μ-loop
+sub-read-line c = search needs
+
+part-read-line-start : tie.Need-part-read-line-start Inv-loop μ-loop
+part-read-line-start c = search needs
+
+part-read-line-end : tie.Need-part-read-line-end Inv-loop μ-loop
+part-read-line-end c = search needs
+
+read-line-requires : tie.Need-read-line-requires Inv-loop μ-loop
+read-line-requires c κs = let l = c .before .before .before .loop in (can-read (c .before .before .before .before .before .before .before .args .text .now) (drop 16384 (c .before .before .before .before .before .before .before .args .store .now)) (c .before .before .before .loop .store) (c .before .before .before .loop .t) (c .before .before .before .loop .last) (c .before .before .before .loop .line) (c .before .before .before .loop .at) (c .before .before .before .loop .inv .0) (c .before .before .before .before .before .before .before .pre .1 .0), (rw (tail-is (c .before .before .before .before .before .before .before .args .text .now) (l .at), length-drop) (omega arith), l .inv .2))
+
+add-line : tie.Need-add-line Inv-loop μ-loop
+add-line c = omega (arith, c .before .before .before .before .before .before .loop .inv .0 .count)
+
+same-length : tie.Need-same-length Inv-loop μ-loop
+same-length c = omega (arith, c .before .before .before .read-line .ensures .kept)
+
+returns : tie.Need-returns Inv-loop μ-loop
+returns c = let r = c .before .before .before .read-line .ensures in
+    let l = c .before .before .before .before .before .before .before .loop in record {
+      kept = r .kept ∙ l .inv .1;
+      past = rw (r .same (c .if1 .taken)) (loading-past (c .before .before .before .before .before .before .before .before .before .before .before .args .text .now) (drop 16384 (c .before .before .before .before .before .before .before .before .before .before .before .args .store .now)) (c .before .before .before .before .before .before .before .loop .store) (c .before .before .before .before .before .before .before .loop .t) (c .before .before .before .before .before .before .before .loop .last) (c .before .before .before .before .before .before .before .loop .line) (c .before .before .before .before .before .before .before .loop .at) (c .before .before .before .before .before .before .before .loop .inv .0));
+      stopped = λ n. loading-stops (c .before .before .before .before .before .before .before .before .before .before .before .args .text .now) (drop 16384 (c .before .before .before .before .before .before .before .before .before .before .before .args .store .now)) (c .before .before .before .before .before .before .before .loop .store) (c .before .before .before .before .before .before .before .loop .t) (c .before .before .before .before .before .before .before .loop .last) (c .before .before .before .before .before .before .before .loop .line) (c .before .before .before .before .before .before .before .loop .at) (c .before .before .before .before .before .before .before .loop .inv .0) (c .before .before .before .before .before .before .loop-test .taken) _ _ _ _ _ (c .before .before .before .read-line .ensures) n;
+      whole = λ z. absurd (c .if1 .taken z);
+    }
+
+add-at : tie.Need-add-at Inv-loop μ-loop
+add-at c = omega (arith, step-span (c .before .before .before .before .before .before .before .before .before .before .before .before .before .args .text .now) (drop 16384 (c .before .before .before .before .before .before .before .before .before .before .before .before .before .args .store .now)) (c .before .before .before .before .before .before .before .before .before .loop .store) (c .before .before .before .before .before .before .before .before .before .loop .t) (c .before .before .before .before .before .before .before .before .before .loop .last) (c .before .before .before .before .before .before .before .before .before .loop .line) (c .before .before .before .before .before .before .before .before .before .loop .at) (c .before .before .before .before .before .before .before .before .before .loop .inv .0) (c .before .before .before .before .before .before .before .before .loop-test .taken) _ _ _ _ _ (c .before .before .before .before .before .read-line .ensures))
+
+loop-less : tie.Need-loop-less Inv-loop μ-loop
+loop-less c = omega (arith, step-span (c .before .before .before .before .before .before .before .before .before .before .before .before .before .args .text .now) (drop 16384 (c .before .before .before .before .before .before .before .before .before .before .before .before .before .args .store .now)) (c .before .before .before .before .before .before .before .before .before .loop .store) (c .before .before .before .before .before .before .before .before .before .loop .t) (c .before .before .before .before .before .before .before .before .before .loop .last) (c .before .before .before .before .before .before .before .before .before .loop .line) (c .before .before .before .before .before .before .before .before .before .loop .at) (c .before .before .before .before .before .before .before .before .before .loop .inv .0) (c .before .before .before .before .before .before .before .before .loop-test .taken) _ _ _ _ _ (c .before .before .before .before .before .read-line .ensures))
+
+loop-again : tie.Need-loop-again Inv-loop μ-loop
+loop-again c = (loading-goes-on (c .before .before .before .before .before .before .before .before .before .before .before .before .before .args .text .now) (drop 16384 (c .before .before .before .before .before .before .before .before .before .before .before .before .before .args .store .now)) (c .before .before .before .before .before .before .before .before .before .loop .store) (c .before .before .before .before .before .before .before .before .before .loop .t) (c .before .before .before .before .before .before .before .before .before .loop .last) (c .before .before .before .before .before .before .before .before .before .loop .line) (c .before .before .before .before .before .before .before .before .before .loop .at) (c .before .before .before .before .before .before .before .before .before .loop .inv .0) (c .before .before .before .before .before .before .before .before .loop-test .taken) _ _ _ _ _ (c .before .before .before .before .before .read-line .ensures) (c .before .before .if1 .left), c .before .before .before .before .before .read-line .ensures .kept ∙ c .before .before .before .before .before .before .before .before .before .loop .inv .1, rw (c .before .before .before .before .before .read-line .ensures .kept) (c .before .before .before .before .before .before .before .before .before .loop .inv .2))
+
+same-length-2 : tie.Need-same-length-2 Inv-loop μ-loop
+same-length-2 c = search needs
+
+returns-2 : tie.Need-returns-2 Inv-loop μ-loop
+returns-2 c = record {
+  kept = c .before .before .loop .inv .1;
+  past = loading-past (c .before .before .before .before .before .before .args .text .now) (drop 16384 (c .before .before .before .before .before .before .args .store .now)) (c .before .before .loop .store) (c .before .before .loop .t) (c .before .before .loop .last) (c .before .before .loop .line) (c .before .before .loop .at) (c .before .before .loop .inv .0);
+  stopped = λ n. ends-short (c .before .before .before .before .before .before .args .text .now) (drop 16384 (c .before .before .before .before .before .before .args .store .now)) (c .before .before .loop .store) (c .before .before .loop .t) (c .before .before .loop .last) (c .before .before .loop .line) (c .before .before .loop .at) (c .before .before .loop .inv .0) (c .before .loop-test .left) (c .if2 .taken);
+  whole = λ z. absurd (omega arith);
+}
+
+same-length-3 : tie.Need-same-length-3 Inv-loop μ-loop
+same-length-3 c = search needs
+
+returns-3 : tie.Need-returns-3 Inv-loop μ-loop
+returns-3 c = record {
+  kept = c .before .before .loop .inv .1;
+  past = loading-past (c .before .before .before .before .before .before .args .text .now) (drop 16384 (c .before .before .before .before .before .before .args .store .now)) (c .before .before .loop .store) (c .before .before .loop .t) (c .before .before .loop .last) (c .before .before .loop .line) (c .before .before .loop .at) (c .before .before .loop .inv .0);
+  stopped = λ n. absurd (n refl);
+  whole = λ z. ends-whole (c .before .before .before .before .before .before .args .text .now) (drop 16384 (c .before .before .before .before .before .before .args .store .now)) (c .before .before .loop .store) (c .before .before .loop .t) (c .before .before .loop .last) (c .before .before .loop .line) (c .before .before .loop .at) (c .before .before .loop .inv .0) (c .before .loop-test .left) (c .if2 .left);
+}
+
+pub read-lines-spec : {M : Type 1} → statement M
+read-lines-spec =
+    tie.close
+    (tie.spec
+    Inv-loop
+    μ-loop
+    empty-requires
+    loop-holds
+    sub-read-line
+    part-read-line-start
+    part-read-line-end
+    read-line-requires
+    add-line
+    same-length
+    returns
+    add-at
+    loop-less
+    loop-again
+    same-length-2
+    returns-2
+    same-length-3
+    returns-3)

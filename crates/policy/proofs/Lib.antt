@@ -1,0 +1,11 @@
+pub mod More
+pub mod Types
+pub mod Roles
+pub mod Entries
+pub mod Refusals
+pub mod Adding
+pub mod Loads
+pub mod Accepted
+pub mod Moves
+pub mod Room
+pub mod Table

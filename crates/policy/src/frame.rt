@@ -1,0 +1,180 @@
+// The fields of a frame, and the tests of refusals 8, 9, 10 and 13 that need no policy.
+ghost use mathlib.Core.Path.{_≡_};
+ghost use Prim.Native.Nat.{_<_};
+ghost use lib.ListN.{getD};
+ghost use Rattle.policy.specs.Frames.{byteAt, number2, number4, roleFrom, frameTable, fitsTable, mayFollow, goodRole, miscounts};
+
+// A type with its shortest and longest payload.
+struct FrameType {
+    code: u8,
+    shortest: usize,
+    longest: usize,
+}
+
+const FRAME_TYPES: [FrameType; 9] = [
+    FrameType {
+        code: 0x01,
+        shortest: 1,
+        longest: 1,
+    },
+    FrameType {
+        code: 0x10,
+        shortest: 5,
+        longest: 5,
+    },
+    FrameType {
+        code: 0x20,
+        shortest: 1,
+        longest: 79,
+    },
+    FrameType {
+        code: 0x30,
+        shortest: 2,
+        longest: 2,
+    },
+    FrameType {
+        code: 0x40,
+        shortest: 5,
+        longest: 5,
+    },
+    FrameType {
+        code: 0x41,
+        shortest: 2,
+        longest: 2,
+    },
+    FrameType {
+        code: 0x42,
+        shortest: 4,
+        longest: 4,
+    },
+    FrameType {
+        code: 0x43,
+        shortest: 4,
+        longest: 4,
+    },
+    FrameType {
+        code: 0x7f,
+        shortest: 2,
+        longest: 2,
+    },
+];
+
+fn wide(b: u8) -> usize
+    ensures { λ r. ⌜ (r ≡ b) × (r < 256) ⌝ }
+{
+    b as usize
+}
+
+fn word(b: u8) -> u32
+    ensures { λ r. ⌜ (r ≡ b) × (r < 256) ⌝ }
+{
+    b as u32
+}
+
+// The byte at a place, 0 past the end.
+fn byte_at(bytes: &[u8], at: usize) -> u8
+    ensures { λ r. ⌜ r ≡ getD (now (bytes .entry)) at 0 ⌝ }
+{
+    if at < bytes.len() {
+        return bytes[at];
+    }
+    0
+}
+
+// The same of a frame.
+pub fn byte(frame: lines::Frame, at: usize) -> u8
+    ensures { λ r. ⌜ r ≡ byteAt frame at ⌝ }
+{
+    byte_at(&frame.bytes, at)
+}
+
+// The number in two bytes from a place on.
+pub fn number2(frame: lines::Frame, at: u8) -> usize
+    ensures { λ r. ⌜ r ≡ number2 frame at ⌝ }
+{
+    let i = wide(at);
+    wide(byte(frame, i)) * 256 + wide(byte(frame, i + 1))
+}
+
+// The number in four bytes from a place on.
+pub fn number4(frame: lines::Frame, at: u8) -> u32
+    ensures { λ r. ⌜ r ≡ number4 frame at ⌝ }
+{
+    let i = wide(at);
+    let high = word(byte(frame, i)) * 256 + word(byte(frame, i + 1));
+    (high * 256 + word(byte(frame, i + 2))) * 256 + word(byte(frame, i + 3))
+}
+
+// Whether the table has the type, with a payload of this size.
+pub fn fits_type(kind: u8, size: usize) -> bool
+    ensures { λ r. ⌜ r ≡ fitsTable frameTable kind size ⌝ }
+{
+    let mut k = 0;
+    while k < 9 {
+        let known = FRAME_TYPES[k];
+        if known.code == kind {
+            if size < known.shortest {
+                return false;
+            }
+            return size <= known.longest;
+        }
+        k += 1;
+    }
+    false
+}
+
+// Whether a frame of type `kind` may follow one of type `last`, 0 at the start.
+pub fn may_follow(last: u8, kind: u8) -> bool
+    ensures { λ r. ⌜ r ≡ mayFollow last kind ⌝ }
+{
+    if last == 0 {
+        return kind == 0x01;
+    }
+    if kind == 0x01 {
+        return false;
+    }
+    if kind == 0x40 {
+        return last != 0x7f;
+    }
+    if kind == 0x7f {
+        return last != 0x7f;
+    }
+    if kind <= 0x40 {
+        return last <= kind;
+    }
+    if last < 0x40 {
+        return false;
+    }
+    last <= kind
+}
+
+// Whether the role's kind and id are in range.
+pub fn is_good_role(frame: lines::Frame) -> bool
+    ensures { λ r. ⌜ r ≡ goodRole (roleFrom frame) ⌝ }
+{
+    let kind = byte(frame, 1);
+    let id = number4(frame, 2);
+    if kind == 0x75 {
+        return id != gran::NO_ID;
+    }
+    if kind == 0x67 {
+        return id != gran::NO_ID;
+    }
+    if kind == 0x73 {
+        return id == 0;
+    }
+    if kind == 0x2d {
+        return id == 0;
+    }
+    false
+}
+
+// Whether a 7f counts other than the lines before it.
+pub fn is_miscounted(lines: usize, frame: lines::Frame) -> bool
+    ensures { λ r. ⌜ r ≡ miscounts lines frame ⌝ }
+{
+    if byte(frame, 0) == 0x7f {
+        return number2(frame, 1) != lines;
+    }
+    false
+}
