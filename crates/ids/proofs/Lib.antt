@@ -1,0 +1,4 @@
+pub mod Rows
+pub mod Read
+pub mod Least
+pub mod Candidates

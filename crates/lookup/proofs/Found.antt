@@ -1,0 +1,97 @@
+-- What is found in the bytes of a loaded store: grades, and the best places by them.
+-- Assumes nothing.
+use mathlib.Core.Path.{_≡_, refl, _∙_}
+use mathlib.Core.Logic.{inl, _≢_}
+use mathlib.Core.Bool.{true, So}
+use mathlib.Core.List.{List, [], map}
+use Prim.Native.Nat.{ℕ, _+_, _<_}
+use native.Mathlib.Omega.{arith}
+use borrow.Author.Tests.{le-leb}
+use borrow.Author.Count.{below-more}
+use lib.ListN.{length, getD, set}
+use lib.Seq.{getD-set-same, getD-set-other}
+use Rattle.paths.specs.Path.{goodPath}
+use Rattle.paths.proofs.Paths.{good-short}
+use Rattle.paths.proofs.Bools.{right}
+use Rattle.gran.specs.Lists.{none, any}
+use Rattle.gran.specs.Policy.{Policy, Object}
+use Rattle.gran.specs.Match.{pathAt, subjectPath, objectPath, ofRole, noEntry, subjectsOf, subjectOf, objectsOf, objectIn, modesOf}
+use Rattle.gran.specs.Role.{inForce}
+use Rattle.gran.specs.Good.{GoodObject, isRoot}
+use Rattle.gran.proofs.Lists.{all-at, any-map, only-any}
+use Rattle.gran.proofs.Policies.{inForce-known}
+use Rattle.store.specs.Held.{Loaded}
+use Rattle.fields.specs.Fields.{entryCount, entrySubject, objectCount, objectPathAt, objectModesAt}
+use Rattle.fields.proofs.Header.{entry-count}
+use Rattle.fields.proofs.Paths.{path-read}
+use Rattle.fields.proofs.Entries.{entry-subject, entry-role, object-count, object-path, object-modes}
+use Rattle.lookup.specs.Best.{bestOf, gradeIn, gradeAt}
+use Rattle.lookup.specs.Lookup.{gradeOf, Graded, entryAt, InForce, Placed}
+use Rattle.lookup.specs.declared.Row.the-variants.{Subjects, OfRole, Objects}
+use Rattle.lookup.proofs.Search.{always, only-all}
+use Rattle.lookup.proofs.Picked.{Picked, picked}
+use Rattle.lookup.proofs.Matches.{noObject, good-entry, subject-picked, entry-picked, object-picked, placed-path, placed-modes}
+
+-- One place more of a list holds its value.
+pub filled : (xs : List ℕ) (a : ℕ → ℕ) (i v : ℕ) → i < length xs → v ≡ a i → ((k : ℕ) → k < i → getD xs k 0 ≡ a k) → (k : ℕ) → k < i + 1 → getD (set xs i v) k 0 ≡ a k
+filled xs a i v l e before =
+    below-more (λ (k : ℕ). getD (set xs i v) k 0 ≡ a k) i
+    (λ k h. let apart : k ≢ i = λ d. omega (arith, d) in getD-set-other xs i k v 0 apart ∙ before k h) (getD-set-same xs i v 0 l ∙ e)
+
+module _ {P : Policy} {rest s : List ℕ} (L : Loaded P rest s) (f : List ℕ) where
+  -- the store's grade of a path is the policy's
+  pub grade-read : (c : ℕ) → c < length (P .paths) → gradeIn s f c ≡ gradeOf P f c
+  unfolding gradeIn gradeOf
+  grade-read c l = rw (path-read L c, le-leb _ 64 (good-short true (pathAt (P .paths) c) (all-at (λ (p : List ℕ). So (goodPath true p)) (P .paths) [] (L .good .paths) c l)))
+
+  subject-named : (e : ℕ) → e < length (P .entries) → entryAt P e .subject < length (P .paths)
+  subject-named e l = good-entry P (L .good) e l .subject
+
+  -- the entry for `/` of a role is one of all
+  S-root : So (any (isRoot P) (map subjectPath (P .entries)))
+  S-root =
+      any-map _ subjectPath (isRoot P) (λ e t. right (ofRole r e) _ t) (P .entries)
+      (only-any (ofRole r) subjectPath (isRoot P) (P .entries) (unfold subjectsOf in L .good .rooted r (inForce-known P (L .good) none none none (inl refl) (inl refl) (inl refl))))
+    where
+      r : ℕ
+      r = inForce P none none none
+
+  module _ (of : List ℕ) (graded : Graded P f of) where
+    subject-grade : (e : ℕ) → e < length (P .entries) → getD of (entrySubject s e) 0 ≡ gradeOf P f (entryAt P e .subject)
+    subject-grade e l = rw (entry-subject L e l) (graded _ (subject-named e l))
+
+    pub subject-found : entrySubject s (bestOf (gradeAt s of Subjects) (entryCount s) .place) ≡ subjectOf P f
+    unfolding gradeAt
+    subject-found = rw (entry-count L) (entry-subject L _ (p .inside) ∙ subject-picked P (L .good) f _ p)
+      where
+        p : Picked P f always subjectPath noEntry (P .entries) (bestOf (gradeAt s of Subjects) (length (P .entries)) .place)
+        p = picked P (L .good) f always subjectPath noEntry (P .entries) subject-named (rw (only-all (P .entries)) S-root) (gradeAt s of Subjects) subject-grade
+
+    pub entry-found : (r : ℕ) → r < length (P .roles) → InForce P r f (bestOf (gradeAt s of (OfRole r)) (entryCount s) .place)
+    unfolding gradeAt subjectsOf
+    entry-found r known =
+        rw (entry-count L) (entry-picked P (L .good) f r _
+        (picked P (L .good) f (ofRole r) subjectPath noEntry (P .entries) subject-named (L .good .rooted r known) (gradeAt s of (OfRole r))
+        (λ e l. rw (entry-role L e l, subject-grade e l))))
+
+    module _ (e : ℕ) (known : e < length (P .entries)) where
+      pub object-found : Placed P e f (bestOf (gradeAt s of (Objects e)) (objectCount s e) .place)
+      unfolding gradeAt objectsOf
+      object-found =
+          rw (object-count L e known) (object-picked P (L .good) f e known _
+          (picked P (L .good) f always objectPath noObject objects named (rw (only-all objects) (good-entry P (L .good) e known .rooted)) (gradeAt s of (Objects e))
+          (λ i l. rw (object-path L e known i noObject l) (graded _ (named i l)))))
+        where
+          objects : List Object
+          objects = entryAt P e .objects
+
+          named : (i : ℕ) → i < length objects → getD objects i noObject .path < length (P .paths)
+          named i l = all-at (GoodObject P) objects noObject (good-entry P (L .good) e known .objects) i l .path
+
+-- What callers read at the place of an object.
+module _ {P : Policy} {rest s : List ℕ} (L : Loaded P rest s) {e i : ℕ} {f : List ℕ} (known : e < length (P .entries)) (placed : Placed P e f i) where
+  pub object-path-is : objectPathAt s e i ≡ objectIn P (entryAt P e) f
+  object-path-is = object-path L e known i noObject (placed .inside) ∙ placed-path P (L .good) f e known i placed
+
+  pub object-modes-is : objectModesAt s e i ≡ modesOf (entryAt P e) (objectIn P (entryAt P e) f)
+  object-modes-is = object-modes L e known i noObject (placed .inside) ∙ placed-modes P (L .good) f e known i placed

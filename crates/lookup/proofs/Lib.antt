@@ -1,0 +1,5 @@
+pub mod Search
+pub mod Greatest
+pub mod Picked
+pub mod Matches
+pub mod Found

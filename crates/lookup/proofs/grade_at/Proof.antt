@@ -1,0 +1,57 @@
+-- `grade_at` meets its contract: each arm is a case of `gradeAt`.
+-- Assumes nothing.
+use borrow.Author.Needs.{needs}
+use Rattle.lookup.specs.Best.{gradeAt}
+use Rattle.lookup.proofs.grade_at.Statement.{statement}
+use Rattle.lookup.proofs.grade_at.Tie as tie
+
+enum-told : tie.Need-enum-told
+enum-told c = search needs
+
+entry-subject-requires : tie.Need-entry-subject-requires
+entry-subject-requires c κs = search needs
+
+grade-of-requires : tie.Need-grade-of-requires
+grade-of-requires c κs = search needs
+
+enum-known-row : tie.Need-enum-known-row
+enum-known-row c = search needs
+
+role-grade-requires : tie.Need-role-grade-requires
+role-grade-requires c κs = search needs
+
+enum-known-row-2 : tie.Need-enum-known-row-2
+enum-known-row-2 c = search needs
+
+object-path-requires : tie.Need-object-path-requires
+object-path-requires c κs = search needs
+
+grade-of-requires-2 : tie.Need-grade-of-requires-2
+grade-of-requires-2 c κs = search needs
+
+returns : tie.Need-returns
+unfolding gradeAt
+returns c = cc
+
+returns-2 : tie.Need-returns-2
+returns-2 c = cc
+
+returns-3 : tie.Need-returns-3
+unfolding gradeAt
+returns-3 c = cc
+
+pub grade-at-spec : {M : Type 1} → statement M
+grade-at-spec =
+    tie.close
+    (tie.spec
+    enum-told
+    entry-subject-requires
+    grade-of-requires
+    enum-known-row
+    role-grade-requires
+    enum-known-row-2
+    object-path-requires
+    grade-of-requires-2
+    returns
+    returns-2
+    returns-3)

@@ -1,0 +1,9 @@
+pub mod Front
+pub mod Cells
+pub mod Choices
+pub mod Subjects
+pub mod Reaches
+pub mod Grants
+pub mod Parts
+pub mod Rows
+pub mod Whole

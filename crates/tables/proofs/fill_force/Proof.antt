@@ -1,0 +1,68 @@
+-- `fill_force` meets its contract: each cell that was passed holds what was looked up for it.
+-- Assumes nothing.
+use mathlib.Core.Path.{_≡_, refl}
+use Prim.Native.Nat.{_-_, _≤_}
+use native.Mathlib.Omega.{arith}
+use borrow.Author.Needs.{needs}
+use lib.ListN.{length}
+use Rattle.tables.specs.Regions.{Region, Forces}
+use Rattle.tables.proofs.Cells.{region-none, region-more}
+use Rattle.tables.proofs.fill_force.Statement.{statement}
+use Rattle.tables.proofs.fill_force.Tie as tie
+
+abbrev Inv-loop : tie.InvT-loop
+Inv-loop store g row₀ count r₀ row r = (r ≤ count) × (length row ≡ length row₀) × Region store (Forces (g .of)) r row
+
+abbrev μ-loop : tie.MeasureT-loop
+μ-loop store g row₀ count r₀ row r = count - r
+
+role-count-requires : tie.Need-role-count-requires Inv-loop μ-loop
+role-count-requires c κs = search needs
+
+loop-holds : tie.Need-loop-holds Inv-loop μ-loop
+loop-holds c = (omega arith, refl, region-none (c .before .before .before .args .store .now) (Forces (c .before .before .before .args .g .of)) (c .before .before .before .args .row .now))
+
+entry-in-requires : tie.Need-entry-in-requires Inv-loop μ-loop
+entry-in-requires c κs = search needs
+
+cast-put : tie.Need-cast-put Inv-loop μ-loop
+cast-put c = search needs
+
+put-requires : tie.Need-put-requires Inv-loop μ-loop
+put-requires c κs = search needs
+
+add-r : tie.Need-add-r Inv-loop μ-loop
+add-r c = search needs
+
+loop-less : tie.Need-loop-less Inv-loop μ-loop
+loop-less c = search needs
+
+loop-again : tie.Need-loop-again Inv-loop μ-loop
+loop-again c = (
+  omega arith,
+  omega (arith, c .before .before .put .kept .0),
+  rw (c .before .before .put .ensures) (region-more (c .before .before .before .before .before .before .before .before .before .before .args .store .now) (Forces (c .before .before .before .before .before .before .before .before .before .before .args .g .of)) (c .before .before .before .before .before .before .loop .r) (c .before .before .before .before .entry-in .result) (c .before .before .before .before .before .before .loop .row) (c .before .before .before .before .before .before .loop .inv .2) (λ P rest L f graded h. c .before .before .before .before .entry-in .ensures P rest f L graded h)),
+)
+
+same-length : tie.Need-same-length Inv-loop μ-loop
+same-length c = search needs
+
+returns : tie.Need-returns Inv-loop μ-loop
+returns c P rest L i h = c .before .loop .inv .2 P rest L i (omega (arith, c .before .before .role-count .ensures))
+
+pub fill-force-spec : {M : Type 1} → statement M
+fill-force-spec =
+    tie.close
+    (tie.spec
+    Inv-loop
+    μ-loop
+    role-count-requires
+    loop-holds
+    entry-in-requires
+    cast-put
+    put-requires
+    add-r
+    loop-less
+    loop-again
+    same-length
+    returns)
