@@ -1,0 +1,10 @@
+pub mod Radix
+pub mod Places
+pub mod Members
+pub mod Numbers
+pub mod Loops
+pub mod Force
+pub mod Objects
+pub mod Sets
+pub mod Execs
+pub mod Steps

@@ -1,0 +1,117 @@
+-- A search keeps its memory: there is room for each state that was not found yet, and what stands in the queue is a state.
+-- Assumes nothing.
+use mathlib.Core.Path.{_≡_, refl, sym, ap, _∙_}
+use mathlib.Core.Bool.{Bool, true, false, cond}
+use mathlib.Core.List.{List, [], _∷_}
+use Prim.Native.Nat.{ℕ, zero, suc, _+_, _≤_, _<_}
+use native.Mathlib.Omega.{arith}
+use native.Mathlib.Decide.{ℕ-discrete}
+use lib.Dec.{eqb}
+use lib.ListN.{getD}
+use borrow.Author.Tests.{eq-eqb, ne-eqb}
+use Rattle.lines.specs.Line.{zeros}
+use Rattle.lines.proofs.Rooms.{length-zeros, getD-zeros}
+use Rattle.numbered.specs.Candidates.{Step}
+use Rattle.numbered.specs.declared.Sizes.{Sizes}
+use Rattle.walk.specs.Walk.{Walk, mark, Cleared, empty, enter, visit, visits}
+use Rattle.numbered.specs.Number.{allStates}
+use Rattle.walk.specs.Needed.{unmarked, Kept}
+use Rattle.walk.proofs.Walks.{visit-met, visit-new, visit-old}
+use Rattle.walk.proofs.Entering.{entered-length, queue-stays, queue-new, mark-stays, mark-new}
+
+-- ---- how many have no mark
+
+unmarked-all : (area : List ℕ) (n : ℕ) → ((m : ℕ) → m < n → mark area m ≡ 0) → unmarked area n ≡ n
+unfolding unmarked
+unmarked-all area zero h = refl
+unmarked-all area (suc n) h = rw (eq-eqb (mark area n) 0 (h n (omega arith)), unmarked-all area n (λ m lt. h m (omega arith))) (omega arith)
+
+unmarked-some : (area : List ℕ) (n m : ℕ) → m < n → mark area m ≡ 0 → 0 < unmarked area n
+unfolding unmarked
+unmarked-some area zero m h z = absurd (omega arith)
+unmarked-some area (suc n) m h z = go (ℕ-discrete m n) (λ lt. unmarked-some area n m lt z)
+  where
+    go : Dec (m ≡ n) → (m < n → 0 < unmarked area n) → 0 < cond (eqb (mark area n) 0) 1 0 + unmarked area n
+    go (yes e) below = rw (eq-eqb (mark area n) 0 (ap (mark area) (sym e) ∙ z)) (omega arith)
+    go (no ne) below = let s : 0 < unmarked area n = below (omega arith) in omega arith
+
+unmarked-same : (a b : List ℕ) (n : ℕ) → ((m : ℕ) → m < n → mark b m ≡ mark a m) → unmarked b n ≡ unmarked a n
+unfolding unmarked
+unmarked-same a b zero h = refl
+unmarked-same a b (suc n) h = rw (h n (omega arith), unmarked-same a b n (λ m lt. h m (omega arith)))
+
+-- A mark more is one less without.
+module _ (a b : List ℕ) (n : ℕ) (was : mark a n ≡ 0) (is : mark b n ≡ 0 → ⊥) where
+  unmarked-less : (end : ℕ) → n < end → ((m : ℕ) → m < end → (m ≡ n → ⊥) → mark b m ≡ mark a m) → suc (unmarked b end) ≡ unmarked a end
+  unfolding unmarked
+  unmarked-less zero h others = absurd (omega arith)
+  unmarked-less (suc end) h others = go (ℕ-discrete n end) (λ lt. unmarked-less end lt (λ m l. others m (omega arith)))
+    where
+      go : Dec (n ≡ end) → (n < end → suc (unmarked b end) ≡ unmarked a end) → suc (cond (eqb (mark b end) 0) 1 0 + unmarked b end) ≡ cond (eqb (mark a end) 0) 1 0 + unmarked a end
+      go (yes e) below =
+          let ea : mark a end ≡ 0 = ap (mark a) (sym e) ∙ was in
+          let eb : mark b end ≡ 0 → ⊥ = λ z. is (ap (mark b) e ∙ z) in
+          rw (eq-eqb (mark a end) 0 ea, ne-eqb (mark b end) 0 eb, unmarked-same a b end (λ m lt. others m (omega arith) (omega arith))) (omega arith)
+      go (no ne) below = rw (others end (omega arith) (λ e. ne (sym e))) (omega (arith, below (omega arith)))
+
+-- ---- the memory
+
+module _ (z : Sizes) where
+  pub kept-empty : (area : List ℕ) → Cleared area → Kept z (empty area)
+  kept-empty area clear = record {
+    long = clear .long;
+    states = λ k h. absurd (omega arith);
+    each = omega (arith, unmarked-all area 8192 (clear .unmarked));
+  }
+
+  -- There is room for a state that was not found yet.
+  pub kept-room : {w : Walk} → Kept z w → (n : ℕ) → n < 8192 → mark (w .area) n ≡ 0 → w .count < 8192
+  kept-room {w} kept n small m = omega (arith, kept .each, unmarked-some (w .area) 8192 n small m)
+
+  pub kept-count : {w : Walk} → Kept z w → w .count ≤ 8192
+  kept-count kept = omega (arith, kept .each)
+
+  module _ (few : allStates z ≤ 8192) (goal : ℕ → Bool) (p c n : ℕ) (state : n < allStates z) {w : Walk} (kept : Kept z w) where
+    small : n < 8192
+    small = omega (arith, few, state)
+
+    pub kept-enter : mark (w .area) n ≡ 0 → Kept z (enter goal p c n w)
+    unfolding small
+    kept-enter m =
+        let room : w .count < 8192 = kept-room kept n small m in
+        record {
+          long = entered-length (w .area) (w .count) p c n ∙ kept .long;
+          states = states₁ room;
+          each =
+              let less : suc (unmarked (enter goal p c n w .area) 8192) ≡ unmarked (w .area) 8192 =
+              unmarked-less (w .area) (enter goal p c n w .area) n m (λ e. omega (arith, mark-new (w .area) (w .count) p c n (kept .long) room small)) 8192 small
+              (mark-stays (w .area) (w .count) p c n (kept .long) room small) in
+              omega (arith, kept .each, less);
+        }
+      where
+        states₁ : w .count < 8192 → (k : ℕ) → k < w .count + 1 → getD (enter goal p c n w .area) k 0 < allStates z
+        states₁ room k h = elim (ℕ-discrete k (w .count)) [
+          | yes e ↦ rw (e, queue-new (w .area) (w .count) p c n (kept .long) room small) state
+          | no ne ↦ rw (queue-stays (w .area) (w .count) p c n (kept .long) room small k (omega arith)) (kept .states k (omega arith))
+        ]
+
+    pub kept-visit : Kept z (visit goal p c n w)
+    kept-visit = go (w .met) refl (ℕ-discrete (mark (w .area) n) 0)
+      where
+        go : (b : Bool) → w .met ≡ b → Dec (mark (w .area) n ≡ 0) → Kept z (visit goal p c n w)
+        go true e d = rw (visit-met goal p c n w e) kept
+        go false e (yes m) = rw (visit-new goal p c n w e m) (kept-enter m)
+        go false e (no ne) = rw (visit-old goal p c n w e ne) kept
+
+-- Every step leads to a state.
+abbrev pub Inside : Sizes → List Step → Type 0
+Inside z [] = Unit {0}
+Inside z (x ∷ xs) = (x .target < allStates z) × Inside z xs
+
+pub kept-visits : (z : Sizes) (few : allStates z ≤ 8192) (goal : ℕ → Bool) (p : ℕ) (xs : List Step) → Inside z xs → {w : Walk} → Kept z w → Kept z (visits goal p xs w)
+unfolding visits
+kept-visits z few goal p [] inside kept = kept
+kept-visits z few goal p (x ∷ xs) inside kept = kept-visits z few goal p xs (inside .1) (kept-visit z few goal p (x .label) (x .target) (inside .0) kept)
+
+pub zeros-cleared : Cleared (zeros 24576)
+zeros-cleared = record { long = length-zeros 24576; unmarked = λ n h. getD-zeros 24576 (8192 + n) }

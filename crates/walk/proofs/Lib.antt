@@ -1,0 +1,11 @@
+pub mod Cells
+pub mod Walks
+pub mod Entering
+pub mod Keeping
+pub mod Loops
+pub mod Targets
+pub mod Images
+pub mod Tests
+pub mod Back
+pub mod Recording
+pub mod Found

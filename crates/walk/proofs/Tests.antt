@@ -1,0 +1,69 @@
+-- Which steps there are, by what a test of the code found.
+-- Assumes nothing.
+use mathlib.Core.Path.{_≡_, refl, sym, ap, _∙_}
+use mathlib.Core.Bool.{Bool, true, false, not, cond, _&&_}
+use mathlib.Core.List.{List, []}
+use Prim.Native.Nat.{ℕ}
+use lib.Dec.{eqb}
+use borrow.Author.Tests.{eq-eqb, ne-eqb}
+use Rattle.gran.specs.Policy.{EXEC, SET-UID, SET-GID}
+use Rattle.gran.specs.Access.{has, sees}
+use Rattle.fields.specs.Fields.{entryCaps, objectPathAt, objectModesAt}
+use Rattle.tables.specs.Tables.{cell, forceCell}
+use Rattle.numbered.specs.Number.{digitsOf}
+use Rattle.numbered.specs.Candidates.{Step, flat, roleAt, entryNumber, userStep, groupStep, userSteps, groupSteps, byUser, objectStep, stepsWith, candidates}
+use Rattle.numbered.specs.declared.Sizes.{Sizes}
+use Rattle.numbered.specs.declared.Digits.{Digits}
+
+pub untrue : (b : Bool) → not b ≡ true → b ≡ false
+untrue true h = sym h
+untrue false h = refl
+
+pub not-untrue : (b : Bool) → not b ≡ false → b ≡ true
+not-untrue true h = refl
+not-untrue false h = sym h
+
+-- A test of a byte that was read.
+pub read : (f : ℕ → Bool) {m n : ℕ} {r b : Bool} → m ≡ n → r ≡ f m → r ≡ b → f n ≡ b
+read f e is h = ap f (sym e) ∙ sym is ∙ h
+
+module _ (s t : List ℕ) (z : Sizes) (d : Digits) (e : ℕ) where
+  pub users-none : has (entryCaps s e) SET-UID ≡ false → userSteps s t z d e ≡ []
+  unfolding userSteps
+  users-none h = rw h
+
+  pub users-some : has (entryCaps s e) SET-UID ≡ true → flat (userStep t z d e) 0 (z .users) ≡ userSteps s t z d e
+  unfolding userSteps
+  users-some h = rw h
+
+  pub groups-none : has (entryCaps s e) SET-GID ≡ false → groupSteps s t z d e ≡ []
+  unfolding groupSteps
+  groups-none h = rw h
+
+  pub groups-some : has (entryCaps s e) SET-GID ≡ true → flat (groupStep t z d e) 0 (z .groups) ≡ groupSteps s t z d e
+  unfolding groupSteps
+  groups-some h = rw h
+
+  pub object-none : (i : ℕ) → sees (objectModesAt s e i) EXEC ≡ false → objectStep s t z d e i ≡ []
+  unfolding objectStep
+  object-none i h = rw h
+
+  pub object-some : (i : ℕ) → sees (objectModesAt s e i) EXEC ≡ true → byUser t z d e i (objectPathAt s e i) ≡ objectStep s t z d e i
+  unfolding objectStep
+  object-some i h = rw h
+
+-- Another choice than the kept one, if it is allowed.
+module _ (j kept : ℕ) (allowed : Bool) (xs : List Step) where
+  pub other-kept : j ≡ kept → cond (not (eqb j kept) && allowed) xs [] ≡ []
+  other-kept e = rw (eq-eqb j kept e)
+
+  pub other-none : (j ≡ kept → ⊥) → allowed ≡ false → cond (not (eqb j kept) && allowed) xs [] ≡ []
+  other-none ne h = rw (ne-eqb j kept ne, h)
+
+  pub other-some : (j ≡ kept → ⊥) → allowed ≡ true → xs ≡ cond (not (eqb j kept) && allowed) xs []
+  other-some ne h = rw (ne-eqb j kept ne, h)
+
+-- The digits, the role and the entry, each computed once.
+pub steps-are : (s t : List ℕ) (z : Sizes) (n : ℕ) (d : Digits) (r e : ℕ) → d ≡ digitsOf z n → r ≡ roleAt t d → e ≡ cell t (forceCell (d .subject) r) → stepsWith s t z d r e ≡ candidates s t z n
+unfolding candidates entryNumber
+steps-are s t z n d r e hd hr he = rw (he, hr, hd) refl

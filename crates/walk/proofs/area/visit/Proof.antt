@@ -1,0 +1,106 @@
+-- `area::visit` meets its contract: each way out is one of the laws of `visit`. That the memory is kept bounds the count.
+-- Assumes nothing.
+use mathlib.Core.Path.{sym}
+use Prim.Native.Nat.{_<_}
+use native.Mathlib.Omega.{arith}
+use lib.ListN.{length-set}
+use Rattle.numbered.specs.Candidates.{goalAt}
+use Rattle.walk.specs.Walk.{Walk}
+use Rattle.walk.specs.Needed.{walkOf}
+use Rattle.walk.proofs.Walks.{visit-met, visit-new, visit-old}
+use Rattle.walk.proofs.Keeping.{kept-room}
+use Rattle.walk.proofs.area.visit.Statement.{statement}
+use Rattle.walk.proofs.area.visit.Tie as tie
+
+-- The memory as the function finds it.
+abbrev memory : tie.Start → Walk
+memory s = walkOf (s .args .area .now) (s .args .w)
+
+small : (s : tie.Start) → s .args .n < 8192
+small s = omega (arith, s .pre .1, s .pre .0 .sized .few)
+
+room : (c : tie.Else2) → c .before .before .before .before .before .args .w .count < 8192
+room c = let s = c .before .before .before .before .before in kept-room (s .args .z) (s .pre .0 .kept) (s .args .n) (small s) (c .if2 .left)
+
+returns : tie.Need-returns
+returns c = let s = c .before .before .before in sym (visit-met (goalAt (s .args .t .now) (s .args .z)) (s .args .p) (s .args .c) (s .args .n) (memory s) (c .if1 .taken))
+
+add-at : tie.Need-add-at
+add-at c = omega (arith, small (c .before .before .before))
+
+mul-if2 : tie.Need-mul-if2
+mul-if2 c = omega (arith, small (c .before .before .before))
+
+slice-read-if2 : tie.Need-slice-read-if2
+slice-read-if2 c = omega (arith, small (c .before .before .before .before), c .before .before .before .before .pre .0 .kept .long)
+
+returns-2 : tie.Need-returns-2
+returns-2 c = let s = c .before .before .before .before .before in sym (visit-old (goalAt (s .args .t .now) (s .args .z)) (s .args .p) (s .args .c) (s .args .n) (memory s) (c .before .before .if1 .left) (c .if2 .taken))
+
+cast-area : tie.Need-cast-area
+cast-area c = omega (arith, small (c .before .before .before .before .before))
+
+mul-area : tie.Need-mul-area
+mul-area c = omega (arith, room c)
+
+slice-write-area : tie.Need-slice-write-area
+slice-write-area c = omega (arith, room c, c .before .before .before .before .before .pre .0 .kept .long)
+
+add-area : tie.Need-add-area
+add-area c = omega (arith, c .before .before .before .before .before .pre .0 .place)
+
+cast-area-2 : tie.Need-cast-area-2
+cast-area-2 c = omega (arith, c .before .before .before .before .before .pre .0 .place)
+
+mul-area-2 : tie.Need-mul-area-2
+mul-area-2 c = omega (arith, small (c .before .before .before .before .before))
+
+slice-write-area-2 : tie.Need-slice-write-area-2
+slice-write-area-2 c = simp length-set (omega (arith, small (c .before .before .before .before .before), c .before .before .before .before .before .pre .0 .kept .long))
+
+add-name : tie.Need-add-name
+add-name c = omega (arith, small (c .before .before .before .before .before))
+
+mul-area-3 : tie.Need-mul-area-3
+mul-area-3 c = omega (arith, small (c .before .before .before .before .before))
+
+slice-write-area-3 : tie.Need-slice-write-area-3
+slice-write-area-3 c = simp length-set (omega (arith, small (c .before .before .before .before .before), c .before .before .before .before .before .pre .0 .kept .long))
+
+add-more : tie.Need-add-more
+add-more c = omega (arith, room c)
+
+is-goal-requires : tie.Need-is-goal-requires
+is-goal-requires c κs = c .before .before .before .before .before .pre .0 .sized
+
+same-length : tie.Need-same-length
+same-length c = simp length-set
+
+returns-3 : tie.Need-returns-3
+returns-3 c =
+    let s = c .before .before .before .before .before .before in
+    rw (c .is-goal .ensures) (sym (visit-new (goalAt (s .args .t .now) (s .args .z)) (s .args .p) (s .args .c) (s .args .n) (memory s) (c .before .before .before .if1 .left) (c .before .if2 .left)))
+
+pub visit-spec : {M : Type 1} → statement M
+visit-spec =
+    tie.close
+    (tie.spec
+    returns
+    add-at
+    mul-if2
+    slice-read-if2
+    returns-2
+    cast-area
+    mul-area
+    slice-write-area
+    add-area
+    cast-area-2
+    mul-area-2
+    slice-write-area-2
+    add-name
+    mul-area-3
+    slice-write-area-3
+    add-more
+    is-goal-requires
+    same-length
+    returns-3)

@@ -1,0 +1,89 @@
+-- `walk::expand` meets its contract: four lists of steps, one after the other.
+-- Assumes nothing.
+use borrow.Author.Needs.{needs}
+use Rattle.numbered.specs.Candidates.{goalAt, specialSteps, userSteps, groupSteps, objectSteps, stepsWith}
+use Rattle.numbered.specs.Number.{Among}
+use Rattle.walk.specs.Needed.{walkOf, Going}
+use Rattle.numbered.proofs.Radix.{digits-among}
+use Rattle.walk.proofs.Cells.{among-celled}
+use Rattle.walk.proofs.Walks.{visits-as, visits-four}
+use Rattle.walk.proofs.Loops.{going-on}
+use Rattle.walk.proofs.Targets.{inside-specials, inside-users-set, inside-groups-set}
+use Rattle.walk.proofs.Tests.{steps-are}
+use Rattle.walk.proofs.expand.Statement.{statement}
+use Rattle.walk.proofs.expand.Tie as tie
+
+-- The state's digits are below their sizes.
+below : (c : tie.After-of) → Among (c .before .before .before .before .args .z) (c .of .result)
+below c = rw (c .of .ensures) (digits-among (c .before .before .before .before .pre .0 .sized) (c .before .before .before .before .args .n) (c .before .before .before .before .pre .1))
+
+-- The search goes on after each list.
+after-specials : (c : tie.After-specials) → Going (c .before .before .before .before .before .before .before .before .args .z) (c .before .before .before .before .before .before .before .before .args .p) (walkOf (c .specials .last .0) (c .specials .result))
+after-specials c =
+    let s = c .before .before .before .before .before .before .before .before in
+    let a = s .args in
+    going-on (goalAt (a .t .now) (a .z)) (s .pre .0) (specialSteps (a .t .now) (a .z) (c .before .before .before .before .of .result) (c .before .before .before .role-at .result))
+    (inside-specials (a .store .now) (a .t .now) (below (c .before .before .before .before)) (c .before .before .before .role-at .result)) (c .specials .ensures)
+
+after-users : (c : tie.After-set-users) → Going (c .before .before .before .before .before .before .before .before .before .before .before .before .args .z) (c .before .before .before .before .before .before .before .before .before .before .before .before .args .p) (walkOf (c .set-users .last .0) (c .set-users .result))
+after-users c =
+    let a = c .before .before .before .before .before .before .before .before .before .before .before .before .args in
+    going-on (goalAt (a .t .now) (a .z)) (after-specials (c .before .before .before .before)) (userSteps (a .store .now) (a .t .now) (a .z) (c .before .before .before .before .before .before .before .before .of .result) (c .before .before .before .before .before .before .entry-at .result))
+    (inside-users-set (a .store .now) (a .t .now) (below (c .before .before .before .before .before .before .before .before)) (c .before .before .before .before .before .before .entry-at .result)) (c .set-users .ensures)
+
+after-groups : (c : tie.After-set-groups) → Going (c .before .before .before .before .before .before .before .before .before .before .before .before .before .before .before .before .args .z) (c .before .before .before .before .before .before .before .before .before .before .before .before .before .before .before .before .args .p) (walkOf (c .set-groups .last .0) (c .set-groups .result))
+after-groups c =
+    let a = c .before .before .before .before .before .before .before .before .before .before .before .before .before .before .before .before .args in
+    going-on (goalAt (a .t .now) (a .z)) (after-users (c .before .before .before .before)) (groupSteps (a .store .now) (a .t .now) (a .z) (c .before .before .before .before .before .before .before .before .before .before .before .before .of .result) (c .before .before .before .before .before .before .before .before .before .before .entry-at .result))
+    (inside-groups-set (a .store .now) (a .t .now) (below (c .before .before .before .before .before .before .before .before .before .before .before .before)) (c .before .before .before .before .before .before .before .before .before .before .entry-at .result)) (c .set-groups .ensures)
+
+of-requires : tie.Need-of-requires
+of-requires c κs = c .before .before .before .pre .0 .sized
+
+role-at-requires : tie.Need-role-at-requires
+role-at-requires c κs = among-celled (c .before .before .before .before .pre .0 .sized) (below c)
+
+entry-at-requires : tie.Need-entry-at-requires
+entry-at-requires c κs = among-celled (c .before .before .before .before .before .pre .0 .sized) (below (c .before))
+
+specials-requires : tie.Need-specials-requires
+specials-requires c κs = (c .before .before .before .before .before .before .before .pre .0, below (c .before .before .before))
+
+set-users-requires : tie.Need-set-users-requires
+set-users-requires c κs = (after-specials (c .before .before .before), below (c .before .before .before .before .before .before .before))
+
+set-groups-requires : tie.Need-set-groups-requires
+set-groups-requires c κs = (after-users (c .before .before .before), below (c .before .before .before .before .before .before .before .before .before .before .before))
+
+exec-objects-requires : tie.Need-exec-objects-requires
+exec-objects-requires c κs = (after-groups (c .before .before .before), below (c .before .before .before .before .before .before .before .before .before .before .before .before .before .before .before))
+
+same-length : tie.Need-same-length
+same-length c = search needs
+
+returns : tie.Need-returns
+unfolding stepsWith
+returns c =
+    let a = c .before .before .before .before .before .before .before .before .before .before .before .before .before .before .before .before .before .before .before .before .before .before .args in
+    let d = c .before .before .before .before .before .before .before .before .before .before .before .before .before .before .before .before .before .before .of .result in
+    let role = c .before .before .before .before .before .before .before .before .before .before .before .before .before .before .before .before .before .role-at .result in
+    let entry = c .before .before .before .before .before .before .before .before .before .before .before .before .before .before .before .before .entry-at .result in
+    visits-as (goalAt (a .t .now) (a .z)) (a .p) (walkOf (a .area .now) (a .w))
+    (visits-four (goalAt (a .t .now) (a .z)) (a .p) (specialSteps (a .t .now) (a .z) d role) (userSteps (a .store .now) (a .t .now) (a .z) d entry)
+    (groupSteps (a .store .now) (a .t .now) (a .z) d entry) (objectSteps (a .store .now) (a .t .now) (a .z) d entry)
+    (walkOf (a .area .now) (a .w)) (c .before .before .before .before .before .before .before .before .before .before .before .before .before .before .specials .ensures) (c .before .before .before .before .before .before .before .before .before .before .set-users .ensures) (c .before .before .before .before .before .before .set-groups .ensures) (c .before .before .exec-objects .ensures))
+    (steps-are (a .store .now) (a .t .now) (a .z) (a .n) d role entry (c .before .before .before .before .before .before .before .before .before .before .before .before .before .before .before .before .before .before .of .ensures) (c .before .before .before .before .before .before .before .before .before .before .before .before .before .before .before .before .before .role-at .ensures) (c .before .before .before .before .before .before .before .before .before .before .before .before .before .before .before .before .entry-at .ensures))
+
+pub expand-spec : {M : Type 1} → statement M
+expand-spec =
+    tie.close
+    (tie.spec
+    of-requires
+    role-at-requires
+    entry-at-requires
+    specials-requires
+    set-users-requires
+    set-groups-requires
+    exec-objects-requires
+    same-length
+    returns)

@@ -1,0 +1,127 @@
+-- `walk::search` meets its contract. The loop's invariant: to sweep from place p, in the memory as it is, is the whole search.
+-- The measure is what is left of 8192 places.
+-- Assumes nothing.
+use mathlib.Core.Path.{_≡_, refl, sym, ap, _∙_}
+use Prim.Native.Nat.{ℕ, suc, _+_, _≤_, _<_, _-_}
+use native.Mathlib.Omega.{arith}
+use lib.ListN.{getD}
+use Rattle.numbered.specs.Candidates.{goalAt, candidates}
+use Rattle.walk.specs.Walk.{Walk, visit, sweep, search}
+use Rattle.walk.specs.Needed.{walkOf, Kept}
+use Rattle.walk.proofs.Walks.{sweep-met, sweep-more, sweep-done}
+use Rattle.walk.proofs.Keeping.{kept-empty, kept-count, kept-visit, kept-visits}
+use Rattle.walk.proofs.Targets.{inside-candidates}
+use Rattle.walk.proofs.search.Statement.{statement}
+use Rattle.walk.proofs.search.Tie as tie
+
+abbrev Inv-loop : tie.InvT-loop
+Inv-loop area₀ store t z start w₀ p₀ area w p =
+    Kept z (walkOf area w) × ((p ≤ 8192)
+    × (sweep (goalAt t z) (candidates store t z) (8192 - p) p (walkOf area w) ≡ sweep (goalAt t z) (candidates store t z) 8192 0 (walkOf area₀ w₀)))
+
+abbrev μ-loop : tie.MeasureT-loop
+μ-loop area₀ store t z start w₀ p₀ area w p = 8192 - p
+
+-- The memory at the loop's head, and what is known of it.
+abbrev memory : tie.At-loop Inv-loop μ-loop → Walk
+memory a = walkOf (a .loop .area) (a .loop .w)
+
+whole : (a : tie.At-loop Inv-loop μ-loop) → let s = a .before .before .before .before .before .before .before .before in
+    sweep (goalAt (s .args .t .now) (s .args .z)) (candidates (s .args .store .now) (s .args .t .now) (s .args .z)) (8192 - a .loop .p) (a .loop .p) (memory a)
+    ≡ search (goalAt (s .args .t .now) (s .args .z)) (candidates (s .args .store .now) (s .args .t .now) (s .args .z)) (s .args .start) (s .args .area .now)
+unfolding search
+whole a =
+    let s = a .before .before .before .before .before .before .before .before in
+    a .loop .inv .1 .1 ∙ ap (sweep (goalAt (s .args .t .now) (s .args .z)) (candidates (s .args .store .now) (s .args .t .now) (s .args .z)) 8192 0) (a .before .before .before .visit .ensures)
+
+visit-requires : tie.Need-visit-requires Inv-loop μ-loop
+visit-requires c κs =
+    let s = c .before .before .before .before in
+    (record { kept = kept-empty (s .args .z) (s .args .area .now) (s .pre .0); place = omega arith; sized = s .pre .1 .0 }, s .pre .1 .1)
+
+loop-holds : tie.Need-loop-holds Inv-loop μ-loop
+loop-holds c =
+    let s = c .before .before .before .before .before .before .before in
+    let z = s .args .z in
+    (rw (c .before .before .visit .ensures) (kept-visit z (s .pre .1 .0 .few) (goalAt (s .args .t .now) z) 0 0 (s .args .start) (s .pre .1 .1) (kept-empty z (s .args .area .now) (s .pre .0))), (omega arith, refl))
+
+same-length : tie.Need-same-length Inv-loop μ-loop
+same-length c = c .before .before .before .loop .inv .0 .long ∙ sym (c .before .before .before .before .before .before .before .before .before .before .before .pre .0 .long)
+
+returns : tie.Need-returns Inv-loop μ-loop
+returns c =
+    let a = c .before .before .before in
+    let s = a .before .before .before .before .before .before .before .before in
+    sym (sweep-met (goalAt (s .args .t .now) (s .args .z)) (candidates (s .args .store .now) (s .args .t .now) (s .args .z)) (8192 - a .loop .p) (a .loop .p) (memory a) (c .if2 .taken)) ∙ whole a
+
+mul-n : tie.Need-mul-n Inv-loop μ-loop
+mul-n c = let a = c .before .before .before in omega (arith, kept-count (a .before .before .before .before .before .before .before .before .args .z) (a .loop .inv .0))
+
+slice-read-n : tie.Need-slice-read-n Inv-loop μ-loop
+slice-read-n c = let a = c .before .before .before .before in omega (arith, kept-count (a .before .before .before .before .before .before .before .before .args .z) (a .loop .inv .0), a .loop .inv .0 .long)
+
+cast-n : tie.Need-cast-n Inv-loop μ-loop
+cast-n c = let a = c .before .before .before .before in omega (arith, a .loop .inv .0 .states (a .loop .p) (omega arith), a .before .before .before .before .before .before .before .before .pre .1 .0 .few)
+
+expand-requires : tie.Need-expand-requires Inv-loop μ-loop
+expand-requires c κs =
+    let a = c .before .before .before .before .before in
+    let s = a .before .before .before .before .before .before .before .before in
+    (record { kept = a .loop .inv .0; place = omega (arith, kept-count (s .args .z) (a .loop .inv .0)); sized = s .pre .1 .0 }, a .loop .inv .0 .states (a .loop .p) (omega arith))
+
+add-p : tie.Need-add-p Inv-loop μ-loop
+add-p c = let a = c .before .before .before .before .before .before .before .before in omega (arith, kept-count (a .before .before .before .before .before .before .before .before .args .z) (a .loop .inv .0))
+
+loop-less : tie.Need-loop-less Inv-loop μ-loop
+loop-less c = let a = c .before .before .before .before .before .before .before .before in omega (arith, kept-count (a .before .before .before .before .before .before .before .before .args .z) (a .loop .inv .0))
+
+loop-again : tie.Need-loop-again Inv-loop μ-loop
+loop-again c =
+    let a = c .before .before .before .before .before .before .before .before in
+    let s = a .before .before .before .before .before .before .before .before in
+    let z = s .args .z in
+    let goal = goalAt (s .args .t .now) z in
+    let steps = candidates (s .args .store .now) (s .args .t .now) z in
+    let p : ℕ = a .loop .p in
+    let w : Walk = memory a in
+    let here : p < w .count = omega arith in
+    let bound : w .count ≤ 8192 = kept-count z (a .loop .inv .0) in
+    let fuel : 8192 - p ≡ suc (8192 - (p + 1)) = omega arith in
+    let turned = c .before .before .expand .ensures in (
+      rw turned (kept-visits z (s .pre .1 .0 .few) goal p (steps (getD (w .area) p 0)) (inside-candidates (s .args .store .now) (s .args .t .now) (s .pre .1 .0) (getD (w .area) p 0) (a .loop .inv .0 .states p here)) (a .loop .inv .0)),
+      (
+        omega arith,
+        ap (sweep goal steps (8192 - (p + 1)) (p + 1)) turned
+            ∙ sym (sweep-more goal steps (8192 - (p + 1)) p w (c .before .before .before .before .before .if2 .left) here)
+            ∙ ap (λ (f : ℕ). sweep goal steps f p w) (sym fuel) ∙ a .loop .inv .1 .1,
+      ),
+    )
+
+same-length-2 : tie.Need-same-length-2 Inv-loop μ-loop
+same-length-2 c = c .before .before .loop .inv .0 .long ∙ sym (c .before .before .before .before .before .before .before .before .before .before .pre .0 .long)
+
+returns-2 : tie.Need-returns-2 Inv-loop μ-loop
+returns-2 c =
+    let a = c .before .before in
+    let s = a .before .before .before .before .before .before .before .before in
+    sym (sweep-done (goalAt (s .args .t .now) (s .args .z)) (candidates (s .args .store .now) (s .args .t .now) (s .args .z)) (8192 - a .loop .p) (a .loop .p) (memory a) (omega arith)) ∙ whole a
+
+pub search-spec : {M : Type 1} → statement M
+search-spec =
+    tie.close
+    (tie.spec
+    Inv-loop
+    μ-loop
+    visit-requires
+    loop-holds
+    same-length
+    returns
+    mul-n
+    slice-read-n
+    cast-n
+    expand-requires
+    add-p
+    loop-less
+    loop-again
+    same-length-2
+    returns-2)

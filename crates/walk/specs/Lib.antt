@@ -1,0 +1,4 @@
+pub mod Walk
+pub mod Needed
+pub mod Image
+pub mod Found

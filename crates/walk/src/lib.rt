@@ -1,0 +1,113 @@
+// The search: breadth first over the states of a policy, as numbers, on a lent work area. Rests on `numbered` and what that rests on.
+// Its code and contracts speak of numbers alone (specs/Walk.antt, `search` and `trail`). What the end of a search means in the model's terms
+// stands in specs/Found.antt, `Met`, and in gran's `Unreached`; proofs/Found.antt shows that it holds, so no reader need believe the rest.
+mod area;
+mod execs;
+mod state;
+mod steps;
+
+use area::MARKS;
+use area::visit;
+use execs::exec_objects;
+use numbered::Digits;
+use numbered::Sizes;
+use state::entry_at;
+use state::role_at;
+use steps::set_groups;
+use steps::set_users;
+use steps::specials;
+ghost use mathlib.Core.Path.{_≡_};
+ghost use Prim.Native.Nat.{_≤_, _<_};
+ghost use lib.ListN.{length};
+ghost use Rattle.lines.specs.Line.{zeros};
+ghost use Rattle.numbered.specs.Number.{allStates, Sized};
+ghost use Rattle.numbered.specs.Candidates.{goalAt, candidates};
+ghost use Rattle.walk.specs.Walk as spec;
+ghost use Rattle.walk.specs.Walk.{Cleared, trail, Written};
+ghost use Rattle.walk.specs.Needed.{walkOf, Going, Rooted};
+
+// How many states were found, and whether the last of them has the access, which ends the search.
+pub struct Progress {
+    pub count: usize,
+    pub met: bool,
+}
+
+// An exec: the entry in force, the object's place in it, and the object's path.
+pub struct Exec {
+    pub from: u8,
+    pub place: u8,
+    pub path: u8,
+}
+
+// The steps of state `n`, at place `p` of the queue: 81, 82, 83, 84.
+fn expand(
+    area: &mut [u16],
+    store: &[u8],
+    t: &[u8],
+    z: Sizes,
+    p: usize,
+    n: usize,
+    w: Progress,
+) -> Progress
+    requires { ⌜ Going z p (walkOf (now area) w) × (n < allStates z) ⌝ }
+    ensures { λ r. ⌜ walkOf (now (area .exit)) r ≡ spec.visits (goalAt (now (t .entry)) z) p (candidates (now (store .entry)) (now (t .entry)) z n) (walkOf (now (area .entry)) w) ⌝ }
+{
+    let d = Digits::of(n, z);
+    let role = role_at(t, d);
+    let entry = entry_at(t, d, role);
+    let w1 = specials(area, t, z, p, d, role, w);
+    let w2 = set_users(area, store, t, z, p, d, entry, w1);
+    let w3 = set_groups(area, store, t, z, p, d, entry, w2);
+    exec_objects(area, store, t, z, p, d, entry, w3)
+}
+
+// The search from state `start`, in a cleared work area, until the access is met or every state that can be reached is found.
+pub fn search(area: &mut [u16], store: &[u8], t: &[u8], z: Sizes, start: usize) -> Progress
+    requires { ⌜ Cleared (now area) × (Sized z × (start < allStates z)) ⌝ }
+    ensures { λ r. ⌜ walkOf (now (area .exit)) r ≡ spec.search (goalAt (now (t .entry)) z) (candidates (now (store .entry)) (now (t .entry)) z) start (now (area .entry)) ⌝ }
+{
+    let none = Progress {
+        count: 0,
+        met: false,
+    };
+    let mut w = visit(area, t, z, 0, 0, start, none);
+    let mut p = 0;
+    while p < w.count {
+        let met = w.met;
+        if met {
+            return w;
+        }
+        let n = area[p] as usize;
+        w = expand(area, store, t, z, p, n, w);
+        p += 1;
+    }
+    w
+}
+
+// Zero in every number.
+pub fn clear(area: &mut [u16])
+    ensures { λ _. ⌜ now (area .exit) ≡ zeros (length (now (area .entry))) ⌝ }
+{
+    let mut i = 0;
+    while i < area.len() {
+        area[i] = 0;
+        i += 1;
+    }
+}
+
+// The queue's places from `k` back to the start, the start's own left out; how many.
+pub fn trace(area: &[u16], k: usize, out: &mut [u16]) -> usize
+    requires { ⌜ Rooted (now area) k × (8192 ≤ length (now out)) ⌝ }
+    ensures { λ r. ⌜ Written (trail (now (area .entry)) 8192 k) (now (out .entry)) (now (out .exit)) r ⌝ }
+{
+    let mut at = k;
+    let mut n = 0;
+    while at != 0 {
+        out[n] = at as u16;
+        let s = area[at] as usize;
+        let from = MARKS + s;
+        at = (area[from] - 1) as usize;
+        n += 1;
+    }
+    n
+}
