@@ -1,0 +1,3 @@
+pub mod Unique
+pub mod Short
+pub mod Small

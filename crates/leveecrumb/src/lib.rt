@@ -1,0 +1,49 @@
+// The door: the ask, for every value of each of its arguments. Rests on all crates below.
+// What a reader must believe of the ask stands in `ask`'s specs/Ask.antt: `AskedAs`.
+ghost use Rattle.ask.specs.Ask.{AskedAs};
+use ask::Answer;
+
+// Asks whether the account with this UID and GID, which began in the file `start`, can come to read (kind 0) or write (1) the target.
+// The answer's lines stand in front of the room.
+pub fn ask(
+    text: &[u8],
+    store: &mut [u8],
+    work: &mut [u16],
+    room: &mut [u8],
+    uid: u32,
+    gid: u32,
+    start: &[u8],
+    target: &[u8],
+    kind: u8,
+) -> Answer
+    ensures { λ r. ⌜ AskedAs (now (text .entry)) (record { uid = uid; gid = gid; start = now (start .entry); target = now (target .entry); kind = kind }) (record { store = now (store .entry); work = now (work .entry); room = now (room .entry) }) (record { answer = r; left = record { store = now (store .exit); work = now (work .exit); room = now (room .exit) } }) ⌝ }
+{
+    let refusal = ask::early(
+        text.len(),
+        store.len(),
+        work.len(),
+        start,
+        target,
+        uid,
+        gid,
+        kind,
+    );
+    if refusal != 0 {
+        return Answer::Refused(refusal, 0);
+    }
+    let loaded = load::load(text, store);
+    let number = loaded.number;
+    if number != 0 {
+        return Answer::Refused(number, loaded.line);
+    }
+    reply::respond(
+        store,
+        &mut work[..24576],
+        room,
+        uid,
+        gid,
+        start,
+        target,
+        kind,
+    )
+}

@@ -1,0 +1,7 @@
+pub mod Digits
+pub mod Steps
+pub mod Places
+pub mod Lines
+pub mod Kept
+pub mod Ends
+pub mod Loads

@@ -1,0 +1,115 @@
+-- `start_number` meets its contract: the digits are the places of the start's parts.
+-- Assumes nothing.
+use mathlib.Core.Path.{_≡_, _∙_}
+use native.Mathlib.Omega.{arith}
+use Rattle.gran.specs.Real
+use Rattle.gran.specs.Abstract.{abstract}
+use Rattle.fields.specs.Fields.{policyIn}
+use Rattle.numbered.specs.Number.{placesOf, stateNumber}
+use Rattle.numbered.proofs.Numbers.{places-among}
+use Rattle.reply.proofs.Digits.{ready-sized, start-digits, start-inside}
+use borrow.Author.Needs.{needs}
+use Rattle.reply.proofs.start.start_number.Statement.{statement}
+use Rattle.reply.proofs.start.start_number.Tie as tie
+
+-- What is read are the start's places.
+digits : (c : tie.After-byte) → let s = c .before .before .before .before .before .before .before .before .before .before .before .before .before .before in
+    record { special = 0; user = c .before .before .before .before .before .before .place-of .result; group = c .before .before .before .place-of2 .result; subject = c .byte .result }
+    ≡ placesOf (policyIn (s .args .store .now)) (abstract (policyIn (s .args .store .now)) (Real.start (s .args .uid) (s .args .gid) (s .args .start .now)))
+digits c =
+    let s = c .before .before .before .before .before .before .before .before .before .before .before .before .before .before in
+    let r = s .pre .1 in
+    let L = r .held in
+    start-digits r (s .args .uid) (s .args .gid) (s .args .start .now) _ _ _ _ _ _
+    (c .before .before .before .before .before .before .place-of .ensures) (c .before .before .before .before .before .before .before .role-of .ensures _ _ L) (c .before .before .before .place-of2 .ensures) (c .before .before .before .before .role-of2 .ensures _ _ L)
+    (c .byte .ensures) (c .before .subject-of .ensures _ _ _ L (c .before .before .grades-for .ensures _ _ L))
+
+add-users : tie.Need-add-users
+add-users c = omega (arith, ready-sized (c .before .before .before .before .pre .1) .users .1)
+
+add-groups : tie.Need-add-groups
+add-groups c = omega (arith, ready-sized (c .before .before .before .before .before .pre .1) .groups .1)
+
+sub-place-of : tie.Need-sub-place-of
+sub-place-of c = search needs
+
+part-place-of-start : tie.Need-part-place-of-start
+part-place-of-start c = search needs
+
+part-place-of-end : tie.Need-part-place-of-end
+part-place-of-end c = omega (arith, ready-sized (c .before .before .before .before .before .pre .1) .users .1, c .before .before .before .before .before .pre .1 .tabled .long)
+
+role-of-requires : tie.Need-role-of-requires
+role-of-requires c κs = search needs
+
+place-of-requires : tie.Need-place-of-requires
+place-of-requires c κs = search needs
+
+sub-place-of-2 : tie.Need-sub-place-of-2
+sub-place-of-2 c = search needs
+
+part-place-of-start-2 : tie.Need-part-place-of-start-2
+part-place-of-start-2 c = search needs
+
+part-place-of-end-2 : tie.Need-part-place-of-end-2
+part-place-of-end-2 c = omega (arith, ready-sized (c .before .before .before .before .before .before .before .before .pre .1) .groups .1, c .before .before .before .before .before .before .before .before .pre .1 .tabled .long)
+
+role-of-requires-2 : tie.Need-role-of-requires-2
+role-of-requires-2 c κs = search needs
+
+place-of-requires-2 : tie.Need-place-of-requires-2
+place-of-requires-2 c κs = search needs
+
+grades-for-requires : tie.Need-grades-for-requires
+grades-for-requires c κs = search needs
+
+subject-of-requires : tie.Need-subject-of-requires
+subject-of-requires c κs = search needs
+
+cast-byte : tie.Need-cast-byte
+cast-byte c = search needs
+
+add-byte : tie.Need-add-byte
+add-byte c = search needs
+
+byte-requires : tie.Need-byte-requires
+byte-requires c κs = search needs
+
+cast-subject : tie.Need-cast-subject
+cast-subject c = search needs
+
+number-requires : tie.Need-number-requires
+number-requires c κs =
+    let s = c .before .before .before .before .before .before .before .before .before .before .before .before .before .before in
+    let P = policyIn (s .args .store .now) in
+    let r = s .pre .1 in
+    (ready-sized r, rw (digits c, r .sizes) (places-among P (abstract P (Real.start (s .args .uid) (s .args .gid) (s .args .start .now))) (start-inside r (s .args .uid) (s .args .gid) (s .args .start .now))))
+
+returns : tie.Need-returns
+unfolding stateNumber
+returns c = c .number .ensures ∙ rw (digits (c .before), c .before .before .before .before .before .before .before .before .before .before .before .before .before .before .before .pre .1 .sizes)
+
+pub start-number-spec : {M : Type 1} → statement M
+start-number-spec =
+    tie.close
+    (tie.spec
+    add-users
+    add-groups
+    sub-place-of
+    part-place-of-start
+    part-place-of-end
+    role-of-requires
+    place-of-requires
+    sub-place-of-2
+    part-place-of-start-2
+    part-place-of-end-2
+    role-of-requires-2
+    place-of-requires-2
+    grades-for-requires
+    subject-of-requires
+    cast-byte
+    add-byte
+    byte-requires
+    cast-subject
+    number-requires
+    returns)

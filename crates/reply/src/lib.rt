@@ -1,0 +1,124 @@
+// The answer to a question about a policy in the store: its tables, the search, the lines. Rests on all below.
+// What a reader must believe stands in specs/Reply.antt (`Held`, `Responded`) and in the specs/ of `ask` (`Lines`).
+mod run;
+mod start;
+
+use ask::Answer;
+use gran::Process;
+use numbered::Sizes;
+use walk::Progress;
+ghost use mathlib.Core.Path.{_≡_};
+ghost use mathlib.Core.Bool.{true};
+ghost use Prim.Native.Nat.{_≤_};
+ghost use lib.ListN.{length};
+ghost use Rattle.fields.specs.Fields.{policyIn};
+ghost use Rattle.records.specs.Record.{summary};
+ghost use Rattle.reply.specs.Reply.{Held, Told, Answers, Responded};
+ghost use Rattle.reply.specs.Run.{Ended};
+
+// The length of an answer's first line.
+const SUMMARY: usize = 13;
+
+// Where the next line goes, the number of the state that is left, and the process that is in it.
+pub struct Writing {
+    pub at: usize,
+    pub from: usize,
+    pub process: Process,
+}
+
+// Room for the tables, and for the places of a run.
+fn no_tables() -> [u8; 8192] {
+    [0; 8192]
+}
+
+fn no_places() -> [u16; 8192] {
+    [0; 8192]
+}
+
+// The answer where the access is never had: all states that are reached.
+fn never(room: &mut [u8], opened: usize) -> Answer
+    requires { ⌜ opened ≤ 8192 ⌝ }
+    ensures { λ r. ⌜ Told (summary 0 opened 0) (now (room .entry)) r (now (room .exit)) ⌝ }
+{
+    if room.len() < SUMMARY {
+        return Answer::Short(SUMMARY);
+    }
+    let size = records::put_summary(room, 0, opened as u16, 0);
+    Answer::Answered(size)
+}
+
+// The answer with the run to the last state found: the states opened before it, and its steps.
+fn reached(
+    area: &[u16],
+    store: &[u8],
+    t: &[u8],
+    z: Sizes,
+    w: Progress,
+    start: Process,
+    room: &mut [u8],
+) -> Answer
+    requires { ⌜ Ended (now store) (now t) (now area) z w start × (w .met ≡ true) ⌝ }
+    ensures { λ r. ⌜ ((g : Ended (now (store .entry)) (now (t .entry)) (now (area .entry)) z w start) → Answers (policyIn (now (store .entry))) (g .asked) (now (room .entry)) r (now (room .exit))) ⌝ }
+{
+    let opened = w.count - 1;
+    let mut out = no_places();
+    let n = walk::trace(area, opened, &mut out);
+    let size = SUMMARY + run::run_length(area, &out, n);
+    if room.len() < size {
+        return Answer::Short(size);
+    }
+    let at = records::put_summary(room, 1, opened as u16, n as u16);
+    let first = Writing {
+        at,
+        from: area[0] as usize,
+        process: start,
+    };
+    run::write_run(area, store, t, z, &out, n, room, first);
+    Answer::Answered(size)
+}
+
+// The answer after a search.
+fn told(
+    area: &[u16],
+    store: &[u8],
+    t: &[u8],
+    z: Sizes,
+    w: Progress,
+    start: Process,
+    room: &mut [u8],
+) -> Answer
+    requires { ⌜ Ended (now store) (now t) (now area) z w start ⌝ }
+    ensures { λ r. ⌜ ((g : Ended (now (store .entry)) (now (t .entry)) (now (area .entry)) z w start) → Answers (policyIn (now (store .entry))) (g .asked) (now (room .entry)) r (now (room .exit))) ⌝ }
+{
+    let met = w.met;
+    if met {
+        return reached(area, store, t, z, w, start, room);
+    }
+    never(room, w.count)
+}
+
+// Answers a question about the policy in the store, on a work area of 24,576 numbers with any contents.
+pub fn respond(
+    store: &[u8],
+    area: &mut [u16],
+    room: &mut [u8],
+    uid: u32,
+    gid: u32,
+    start: &[u8],
+    target: &[u8],
+    kind: u8,
+) -> Answer
+    requires { ⌜ Held (now store) ⌝ }
+    requires { ⌜ length (now area) ≡ 24576 ⌝ }
+    ensures { λ r. ⌜ Responded (policyIn (now (store .entry))) (record { uid = uid; gid = gid; start = now (start .entry); target = now (target .entry); kind = kind }) (now (room .entry)) r (now (room .exit)) (now (area .exit)) ⌝ }
+{
+    let mut t = no_tables();
+    tables::fill(store, target, kind, &mut t);
+    let z = start::sizes(store);
+    let from = start::start_number(store, &t, z, uid, gid, start);
+    walk::clear(area);
+    let w = walk::search(area, store, &t, z, from);
+    let r = told(area, store, &t, z, w, Process::start(uid, gid), room);
+    walk::clear(&mut area[..ask::WORK]);
+    r
+}
