@@ -1,0 +1,196 @@
+//! The whole ask: refusals in their order, the answer's lines.
+
+use crate::policy::{is_path, load, number, Refusal, NOBODY, PATH_BYTES_MOST};
+use crate::replay::Step;
+use crate::search::search;
+
+pub const TEXT_MOST: usize = 32_768;
+pub const STORE_LEAST: usize = 16_384;
+pub const WORK_LEAST: usize = 24_576;
+
+/// Types of the step lines.
+pub const TAKE_SPECIAL: u8 = 0x81;
+pub const SET_USER: u8 = 0x82;
+pub const SET_GROUP: u8 = 0x83;
+pub const EXECUTE: u8 = 0x84;
+
+/// Number 0: `value` is the answer's length. 17: the bytes needed. Else the line.
+#[derive(Clone, Debug, PartialEq, Eq)]
+pub struct Outcome {
+    pub number: u8,
+    pub value: u32,
+    /// The answer's lines; empty unless the number is 0.
+    pub answer: Vec<u8>,
+}
+
+impl From<Refusal> for Outcome {
+    fn from(refusal: Refusal) -> Outcome {
+        Outcome {
+            number: refusal.number,
+            value: refusal.line,
+            answer: Vec::new(),
+        }
+    }
+}
+
+/// A question to a policy.
+#[derive(Clone, Copy, Debug)]
+pub struct Question<'a> {
+    pub uid: u32,
+    pub gid: u32,
+    pub start: &'a [u8],
+    pub target: &'a [u8],
+    pub kind: u32,
+}
+
+impl Question<'_> {
+    /// The first of refusals 4 to 6 that the question earns.
+    pub fn fault(&self) -> Option<u8> {
+        let good = |path: &[u8]| is_path(path) && path.len() <= PATH_BYTES_MOST;
+        if !good(self.start) || !good(self.target) {
+            Some(4)
+        } else if self.uid == NOBODY || self.gid == NOBODY {
+            Some(5)
+        } else if self.kind > 1 {
+            Some(6)
+        } else {
+            None
+        }
+    }
+}
+
+/// What a search finds.
+#[derive(Clone, Debug, PartialEq, Eq)]
+pub struct Found {
+    pub reached: bool,
+    pub opened: usize,
+    pub steps: Vec<Step>,
+}
+
+impl Found {
+    /// The answer's lines.
+    pub fn lines(&self) -> Vec<u8> {
+        let mut lines = Vec::with_capacity(self.bytes());
+        let head = [
+            &[0x80, self.reached as u8][..],
+            &(self.opened as u16).to_be_bytes(),
+            &(self.steps.len() as u16).to_be_bytes(),
+        ];
+        write_line(&mut lines, &head);
+        for step in &self.steps {
+            let (uid, gid) = (step.uid.to_be_bytes(), step.gid.to_be_bytes());
+            match step.kind {
+                TAKE_SPECIAL => write_line(&mut lines, &[&[TAKE_SPECIAL, step.role]]),
+                SET_USER => write_line(&mut lines, &[&[SET_USER], &uid]),
+                SET_GROUP => write_line(&mut lines, &[&[SET_GROUP], &gid]),
+                _ => {
+                    let head = [EXECUTE, step.object, step.file];
+                    write_line(&mut lines, &[&head, &uid, &gid])
+                }
+            }
+        }
+        lines
+    }
+
+    /// The answer's length.
+    pub fn bytes(&self) -> usize {
+        let line = |step: &Step| match step.kind {
+            TAKE_SPECIAL => 5,
+            SET_USER | SET_GROUP => 11,
+            _ => 23,
+        };
+        13 + self.steps.iter().map(line).sum::<usize>()
+    }
+}
+
+/// Writes one line: hexadecimal digits and LF.
+pub fn write_line(lines: &mut Vec<u8>, parts: &[&[u8]]) {
+    const DIGITS: &[u8; 16] = b"0123456789abcdef";
+    for byte in parts.iter().copied().flatten() {
+        lines.push(DIGITS[(byte >> 4) as usize]);
+        lines.push(DIGITS[(byte & 15) as usize]);
+    }
+    lines.push(b'\n');
+}
+
+/// Reads the steps back from an answer's lines.
+pub fn steps_of(answer: &[u8]) -> Vec<Step> {
+    let mut steps = Vec::new();
+    let mut rest = answer;
+    while let Some((frame, next)) = crate::policy::take_line(rest) {
+        let bytes = frame.bytes();
+        let mut step = Step {
+            kind: bytes[0],
+            ..Step::default()
+        };
+        match bytes[0] {
+            TAKE_SPECIAL => step.role = bytes[1],
+            SET_USER => step.uid = number(&bytes[1..5]),
+            SET_GROUP => step.gid = number(&bytes[1..5]),
+            EXECUTE => {
+                (step.object, step.file) = (bytes[1], bytes[2]);
+                (step.uid, step.gid) = (number(&bytes[3..7]), number(&bytes[7..11]));
+            }
+            _ => {
+                rest = next;
+                continue;
+            }
+        }
+        steps.push(step);
+        rest = next;
+    }
+    steps
+}
+
+/// The ask with its nine parts, a store, a work area and a room given by their lengths.
+#[allow(clippy::too_many_arguments)]
+pub fn ask(
+    text: &[u8],
+    store_len: usize,
+    work_len: usize,
+    room_len: usize,
+    uid: u32,
+    gid: u32,
+    start: &[u8],
+    target: &[u8],
+    kind: u32,
+) -> Outcome {
+    let question = Question {
+        uid,
+        gid,
+        start,
+        target,
+        kind,
+    };
+    let refuse = |number| Refusal { number, line: 0 }.into();
+    if text.len() > TEXT_MOST {
+        return refuse(1);
+    }
+    if store_len < STORE_LEAST {
+        return refuse(2);
+    }
+    if work_len < WORK_LEAST {
+        return refuse(3);
+    }
+    if let Some(number) = question.fault() {
+        return refuse(number);
+    }
+    let policy = match load(text) {
+        Ok(policy) => policy,
+        Err(refusal) => return refusal.into(),
+    };
+    let found = search(&policy, &question);
+    let needed = found.bytes();
+    if needed > room_len {
+        return Outcome {
+            number: 17,
+            value: needed as u32,
+            answer: Vec::new(),
+        };
+    }
+    Outcome {
+        number: 0,
+        value: needed as u32,
+        answer: found.lines(),
+    }
+}

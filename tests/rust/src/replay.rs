@@ -1,0 +1,124 @@
+//! Replay: step records walked against the real steps.
+
+use crate::ask::{Question, EXECUTE, SET_GROUP, SET_USER, STORE_LEAST, TAKE_SPECIAL, TEXT_MOST};
+use crate::model::{access, object_for, step, Move, Real};
+use crate::policy::{load, Policy, Refusal};
+
+/// No role, no file.
+pub const NONE: u8 = 255;
+
+/// A step record. Fields that a kind does not use are 0.
+#[derive(Clone, Copy, Debug, Default, PartialEq, Eq)]
+pub struct Step {
+    pub kind: u8,
+    pub role: u8,
+    pub uid: u32,
+    pub gid: u32,
+    pub object: u8,
+    pub file: u8,
+}
+
+#[derive(Clone, Copy, Debug, PartialEq, Eq)]
+pub enum Replayed {
+    Refused(Refusal),
+    /// The last file's path number, 255 if nothing was executed.
+    Holds(u8),
+    /// The first record, from 0, that is no real step.
+    NoStep(usize),
+    NotGranted,
+}
+
+/// One record from a state: the state after it, if it is a real step.
+pub fn step_record<'a>(policy: &'a Policy, state: Real<'a>, record: &Step) -> Option<Real<'a>> {
+    let Step {
+        kind,
+        role,
+        uid,
+        gid,
+        object,
+        file,
+    } = *record;
+    let used = match kind {
+        TAKE_SPECIAL => Step {
+            kind,
+            role,
+            ..Step::default()
+        },
+        SET_USER => Step {
+            kind,
+            uid,
+            ..Step::default()
+        },
+        SET_GROUP => Step {
+            kind,
+            gid,
+            ..Step::default()
+        },
+        EXECUTE => Step { role: 0, ..*record },
+        _ => return None,
+    };
+    if used != *record {
+        return None;
+    }
+    let what = match kind {
+        TAKE_SPECIAL => Move::SetSpecial((role != NONE).then_some(role)),
+        SET_USER => Move::SetUser(uid),
+        SET_GROUP => Move::SetGroup(gid),
+        _ => {
+            let path = policy.paths.get(file as usize)?.bytes();
+            let entry = state.entry(policy);
+            let own = policy.objects(entry)[object_for(policy, entry, path)];
+            if own.path != object {
+                return None;
+            }
+            Move::Exec {
+                file: path,
+                uid,
+                gid,
+            }
+        }
+    };
+    step(policy, state, what)
+}
+
+/// Replay of records in an accepted policy.
+pub fn walk(policy: &Policy, question: &Question, steps: &[Step]) -> Replayed {
+    let mut state = Real {
+        special: None,
+        uid: question.uid,
+        gid: question.gid,
+        file: question.start,
+    };
+    let mut last = NONE;
+    for (n, record) in steps.iter().enumerate() {
+        state = match step_record(policy, state, record) {
+            Some(after) => after,
+            None => return Replayed::NoStep(n),
+        };
+        if record.kind == EXECUTE {
+            last = record.file;
+        }
+    }
+    match access(policy, state, question.target, question.kind) {
+        true => Replayed::Holds(last),
+        false => Replayed::NotGranted,
+    }
+}
+
+/// The whole call, the store given by its length: refusals 1, 2, 4 to 16, then the walk.
+pub fn replay(text: &[u8], store_len: usize, question: &Question, steps: &[Step]) -> Replayed {
+    let refuse = |number| Replayed::Refused(Refusal { number, line: 0 });
+    if text.len() > TEXT_MOST {
+        return refuse(1);
+    }
+    if store_len < STORE_LEAST {
+        return refuse(2);
+    }
+    if let Some(number) = question.fault() {
+        return refuse(number);
+    }
+    match load(text) {
+        Ok(policy) => walk(&policy, question, steps),
+        Err(refusal) => Replayed::Refused(refusal),
+    }
+}

@@ -1,0 +1,330 @@
+//! The whole listing, the small facts that are run, and the program.
+
+use second::ask::{ask, steps_of, Outcome, STORE_LEAST, TEXT_MOST, WORK_LEAST};
+use second::clock::clock;
+use second::frames::text;
+use second::load_cases::{fullest, many_states, LISTING};
+use second::pathcheck::{pathcheck, INPUT_MOST};
+use second::replay::{replay, Replayed};
+use std::io::Write;
+use std::process::{Command, Stdio};
+
+const QUESTION: &str = "6001000003e800000064\n612f\n622f6574632f6e74702f\n";
+const ANSWER: &str = "800100020002\n8102\n840101000003e800000064\n";
+
+fn asked(room: usize, uid: u32, kind: u32) -> Outcome {
+    let text = LISTING.as_bytes();
+    ask(
+        text,
+        STORE_LEAST,
+        WORK_LEAST,
+        room,
+        uid,
+        100,
+        b"/",
+        b"/etc/ntp/",
+        kind,
+    )
+}
+
+fn answered(answer: &str) -> Outcome {
+    Outcome {
+        number: 0,
+        value: answer.len() as u32,
+        answer: answer.as_bytes().to_vec(),
+    }
+}
+
+fn refused(number: u8, value: u32) -> Outcome {
+    Outcome {
+        number,
+        value,
+        answer: Vec::new(),
+    }
+}
+
+/// Runs the program on an input.
+fn run(input: &[u8]) -> String {
+    let mut program = Command::new(env!("CARGO_BIN_EXE_pathcheck"))
+        .stdin(Stdio::piped())
+        .stdout(Stdio::piped())
+        .spawn()
+        .unwrap();
+    // The program may stop reading before the end.
+    let _ = program.stdin.take().unwrap().write_all(input);
+    let output = program.wait_with_output().unwrap();
+    assert!(output.status.success());
+    assert_eq!(output.stdout, pathcheck(input));
+    String::from_utf8(output.stdout).unwrap()
+}
+
+fn run_with(question: &str, policy: &str) -> String {
+    run(format!("{question}{policy}").as_bytes())
+}
+
+#[test]
+fn the_listing() {
+    assert_eq!(run_with(QUESTION, LISTING), ANSWER);
+    assert_eq!(asked(41, 1000, 1), answered(ANSWER));
+    assert_eq!(asked(40, 1000, 1), refused(17, 41));
+    assert_eq!(asked(0, 1000, 1), refused(17, 41));
+}
+
+#[test]
+fn the_listing_with_other_questions() {
+    assert_eq!(asked(100, 1000, 0), answered("800100010001\n8102\n"));
+    assert_eq!(asked(100, 1001, 1), answered("800000010000\n"));
+    assert_eq!(asked(100, 1001, 0), answered("800000010000\n"));
+    let kind_00 = QUESTION.replace("6001", "6000");
+    assert_eq!(run_with(&kind_00, LISTING), "800100010001\n8102\n");
+    let uid_1001 = QUESTION.replace("000003e8", "000003e9");
+    assert_eq!(run_with(&uid_1001, LISTING), "800000010000\n");
+    // A start that has the access: user role 1 reads `/`.
+    let text = LISTING.as_bytes();
+    let here = ask(text, STORE_LEAST, WORK_LEAST, 13, 1000, 0, b"/", b"/x/", 0);
+    assert_eq!(here, answered("800100000000\n"));
+}
+
+#[test]
+fn refusals_1_to_6_in_order() {
+    let long = vec![b'x'; TEXT_MOST + 1];
+    let bad = b"\n";
+    let (store, work) = (STORE_LEAST, WORK_LEAST);
+    let nobody = u32::MAX;
+    assert_eq!(
+        ask(&long, 0, 0, 0, nobody, nobody, b"", b"", 2),
+        refused(1, 0)
+    );
+    assert_eq!(
+        ask(bad, store - 1, 0, 0, nobody, nobody, b"", b"", 2),
+        refused(2, 0)
+    );
+    assert_eq!(
+        ask(bad, store, work - 1, 0, nobody, nobody, b"", b"", 2),
+        refused(3, 0)
+    );
+    assert_eq!(
+        ask(bad, store, work, 0, nobody, nobody, b"", b"/", 2),
+        refused(4, 0)
+    );
+    assert_eq!(
+        ask(bad, store, work, 0, nobody, nobody, b"/", b"/a", 2),
+        refused(4, 0)
+    );
+    assert_eq!(
+        ask(bad, store, work, 0, nobody, 0, b"/", b"/", 2),
+        refused(5, 0)
+    );
+    assert_eq!(
+        ask(bad, store, work, 0, 0, nobody, b"/", b"/", 2),
+        refused(5, 0)
+    );
+    assert_eq!(ask(bad, store, work, 0, 0, 0, b"/", b"/", 2), refused(6, 0));
+    assert_eq!(ask(bad, store, work, 0, 0, 0, b"/", b"/", 1), refused(7, 1));
+    assert_eq!(
+        ask(&long[1..], store, work, 0, 0, 0, b"/", b"/", 1),
+        refused(7, 1)
+    );
+    for path in [&b"a/"[..], b"/a", b"//", b"/a//b/", b"/\0/", b"/a/b"] {
+        assert_eq!(ask(b"", store, work, 0, 0, 0, path, b"/", 0), refused(4, 0));
+        assert_eq!(ask(b"", store, work, 0, 0, 0, b"/", path, 0), refused(4, 0));
+    }
+    for path in [&b"/"[..], b"/*/", b"/?[/", b"/./../", b"/\n\xff/"] {
+        assert_eq!(
+            ask(b"", store, work, 0, 0, 0, path, path, 0),
+            refused(14, 0)
+        );
+    }
+    let of = |n: usize| [b"/", &vec![b'a'; n - 2][..], b"/"].concat();
+    assert_eq!(
+        ask(b"", store, work, 0, 0, 0, &of(64), &of(64), 0),
+        refused(14, 0)
+    );
+    assert_eq!(
+        ask(b"", store, work, 0, 0, 0, &of(65), &of(64), 0),
+        refused(4, 0)
+    );
+    assert_eq!(
+        ask(b"", store, work, 0, 0, 0, &of(64), &of(65), 0),
+        refused(4, 0)
+    );
+}
+
+#[test]
+fn states_and_paths() {
+    let number = |text: &[u8]| ask(text, STORE_LEAST, WORK_LEAST, 13, 0, 0, b"/", b"/", 1).number;
+    let states = |subjects| text(&second::frames::ended(many_states(subjects)));
+    assert_eq!(number(&states(8)), 0);
+    assert_eq!(number(&states(9)), 16);
+    let named = |name: &str| {
+        let mut cases = second::load_cases::cases().into_iter();
+        cases.find(|c| c.name == name).unwrap().text
+    };
+    assert_eq!(number(&named("96 paths")), 0);
+    assert_eq!(number(&named("97 paths")), 12);
+    assert_eq!(fullest().len(), TEXT_MOST);
+    assert_eq!(number(&fullest()), 0);
+    let mut longer = fullest();
+    longer.push(b'\n');
+    assert_eq!(number(&longer), 1);
+}
+
+#[test]
+fn load_cases_as_worked_out_by_hand() {
+    for case in second::load_cases::cases() {
+        let pair = second::policy::load(&case.text).map_or_else(|r| (r.number, r.line), |_| (0, 0));
+        assert_eq!(pair, case.expected, "{}", case.name);
+    }
+}
+
+/// The files that the row of load cases is written to.
+#[test]
+fn load_cases_in_files() {
+    let folder = std::path::Path::new(env!("CARGO_TARGET_TMPDIR"));
+    let (container, expected) = (folder.join("container"), folder.join("expected"));
+    let mut program = Command::new(env!("CARGO_BIN_EXE_loads"));
+    assert!(program
+        .args([&container, &expected])
+        .status()
+        .unwrap()
+        .success());
+    let (texts, pairs) = (
+        std::fs::read(container).unwrap(),
+        std::fs::read_to_string(expected).unwrap(),
+    );
+    let mut rest = texts.as_slice();
+    let mut pairs = pairs.lines();
+    for case in second::load_cases::cases() {
+        let (length, next) = rest.split_at(4);
+        let (text, next) = next.split_at(u32::from_be_bytes(length.try_into().unwrap()) as usize);
+        assert_eq!(text, case.text);
+        let (number, line) = case.expected;
+        assert_eq!(pairs.next().unwrap(), format!("{number} {line}"));
+        rest = next;
+    }
+    assert!(rest.is_empty() && pairs.next().is_none());
+}
+
+#[test]
+fn refusals_of_the_program() {
+    let lines: Vec<&str> = QUESTION.lines().collect();
+    for n in 0..3 {
+        let expected = format!("8f12000{}\n", n + 1);
+        // Missing, with nothing or the policy in its place.
+        let kept: String = lines[..n].iter().map(|l| format!("{l}\n")).collect();
+        assert_eq!(run_with(&kept, ""), expected);
+        assert_eq!(run_with(&kept, LISTING), expected);
+        // Of wrong form, type or length, before all other refusals.
+        let odd = &lines[n][1..];
+        let upper = lines[n].replace('6', "A");
+        let long = format!("{}{}", &lines[n][..2], "2f".repeat(80));
+        for bad in [
+            "", "0", "0101", "60", "61", "62", "63", "6361", odd, &upper, &long, "61 2f", "602f",
+        ] {
+            assert_eq!(run_with(&format!("{kept}{bad}\n"), "x"), expected);
+        }
+        assert_eq!(run(format!("{kept}{}", lines[n]).as_bytes()), expected);
+    }
+    assert_eq!(run_with("60010000000000000000\n", ""), "8f120002\n");
+    assert_eq!(run_with("600100000000000000\n", ""), "8f120001\n");
+    assert_eq!(run_with("6001000000000000000000\n", ""), "8f120001\n");
+    // Lines of 160 digits are good lines.
+    let long = format!(
+        "6001000003e800000064\n61{}\n62{}\n",
+        "2f".repeat(79),
+        "2f".repeat(79)
+    );
+    assert_eq!(run_with(&long, ""), "8f040000\n");
+    assert_eq!(run_with(QUESTION, ""), "8f0e0000\n");
+    assert_eq!(
+        run_with(&QUESTION.replace("6001", "6002"), LISTING),
+        "8f060000\n"
+    );
+    assert_eq!(
+        run_with(&QUESTION.replace("000003e8", "ffffffff"), ""),
+        "8f050000\n"
+    );
+    assert_eq!(
+        run_with(&QUESTION.replace("612f", "6161"), ""),
+        "8f040000\n"
+    );
+    assert_eq!(run_with(QUESTION, "0101\n\n"), "8f070002\n");
+    assert_eq!(
+        run_with(QUESTION, &LISTING.replace("7f0013", "7f0014")),
+        "8f0d0014\n"
+    );
+}
+
+#[test]
+fn the_program_reads_no_more_than_it_needs() {
+    let fit = String::from_utf8(fullest()).unwrap();
+    // `/` may be run and read in each of the 56 entries, so all subjects are reached, and none may write.
+    assert_eq!(run_with(QUESTION, &fit), "800000380000\n");
+    assert_eq!(run_with(QUESTION, &format!("{fit}\n")), "8f010000\n");
+    assert_eq!(
+        run_with(&QUESTION.replace("612f", "6161"), &format!("{fit}\n")),
+        "8f010000\n"
+    );
+    let endless = "x".repeat(1_000_000);
+    assert_eq!(run_with(QUESTION, &endless), "8f010000\n");
+    assert_eq!(run_with("", &endless), "8f120001\n");
+    let longest = format!(
+        "6001000003e800000064\n61{}\n62{}\n",
+        "2f".repeat(79),
+        "2f".repeat(79)
+    );
+    let all = format!("{longest}{}", "0".repeat(INPUT_MOST));
+    assert_eq!(run(all.as_bytes()), "8f010000\n");
+}
+
+/// A run of 2,407 steps: its answer does not fit the program's room, that of the hour before does.
+#[test]
+fn a_long_run() {
+    let asked = |at: u8, room: usize| {
+        let text = text(&clock(at));
+        ask(
+            &text,
+            STORE_LEAST,
+            WORK_LEAST,
+            room,
+            1,
+            0,
+            b"/a/",
+            b"/etc/",
+            0,
+        )
+    };
+    // An hour: 12 users take the special role, run 22 files and leave it; 11 run the first file again; the last
+    // sets its UID, and the group runs the first file, but not at the end.
+    let hour = 12 * (5 + 22 * 23 + 5) + 11 * 23 + 11 + 23;
+    for at in 1..=7 {
+        let bytes = 13 + (at as usize + 1) * hour - 23;
+        let outcome = asked(at, bytes);
+        assert_eq!((outcome.number, outcome.value as usize), (0, bytes));
+        assert_eq!(asked(at, bytes - 1), refused(17, bytes as u32));
+        let steps = steps_of(&outcome.answer);
+        assert_eq!(steps.len(), (at as usize + 1) * 301 - 1);
+        let text = text(&clock(at));
+        let question = second::ask::Question {
+            uid: 1,
+            gid: 0,
+            start: b"/a/",
+            target: b"/etc/",
+            kind: 0,
+        };
+        assert_eq!(
+            replay(&text, STORE_LEAST, &question, &steps),
+            Replayed::Holds(23)
+        );
+        let input = format!(
+            "60000000000100000000\n612f612f\n622f6574632f\n{}",
+            String::from_utf8(text).unwrap()
+        );
+        let printed = run(input.as_bytes());
+        match bytes > 49_152 {
+            true => assert_eq!(printed, "8f110000\n"),
+            false => assert_eq!(printed.as_bytes(), outcome.answer),
+        }
+        assert_eq!(bytes > 49_152, at == 7);
+    }
+}
