@@ -3,7 +3,7 @@
 use mathlib.Core.Path.{_≡_, refl}
 use mathlib.Core.Bool.{Bool, true, false, not, cond}
 use mathlib.Core.List.{List, [], _∷_}
-use Prim.Native.Nat.{ℕ, zero, suc, _+_, _*_, _≤_, _<_}
+use Prim.Native.Nat.{ℕ, zero, suc, _+_, _*_, _/_, _≤_, _<_}
 use native.Mathlib.Omega.{arith}
 use borrow.Author.Tests.{ltb-false}
 use lib.Dec.{eqb, leb, ltb}
@@ -18,7 +18,7 @@ use Rattle.policy.specs.Load.{Load, Progress, going, stopped, stepBy, step, aft
 use Rattle.policy.proofs.Loads.{run-stopped}
 use Rattle.ask.proofs.Short.{Numbering, first-short}
 use Rattle.ask.specs.declared.Answer.the-variants.{Answered, Short}
-use Rattle.ask.specs.Ask.{Asked, numberOf, valueOf, coded, early, startOf, questionOf, Lines, never, reached, Areas, Outcome, answerWith, Comes, ComesTo, AskedAs}
+use Rattle.ask.specs.Ask.{Asked, numberOf, valueOf, coded, early, startOf, questionOf, Lines, never, reached, Areas, Outcome, answerWith, Comes, ComesTo, AskedAs, AskedInBytes}
 
 -- ---- a refusal's line is a line of the text
 
@@ -91,17 +91,19 @@ early-text text store work a e = go (ltb 32768 text) refl
     go false h = ltb-false 32768 text h
 
 module _ (text : List ℕ) (a : Asked) (lent : Areas) (o : Outcome) (few : (P : Policy) → reading text ≡ accepted P → Numbering P (abstract P (startOf a)) 8192) where
-  comes-small : (r : Reading) → reading text ≡ r → length text ≤ 32768 → Comes r a lent o → valueOf (o .answer) < 4294967296
-  comes-small (refused n l) e h x = rw x (omega (arith, refused-line text n l e))
-  comes-small (accepted P) e h x = rw (x .2, value-length) (lines-few (few P e) (x .1))
+  comes-small : (places : ℕ) (r : Reading) → reading text ≡ r → length text ≤ 32768 → Comes places r a lent o → valueOf (o .answer) < 4294967296
+  comes-small places (refused n l) e h x = rw x (omega (arith, refused-line text n l e))
+  comes-small places (accepted P) e h x = rw (x .2, value-length) (lines-few (few P e) (x .1))
 
-  comesTo-small : (n : ℕ) → early (length text) (length (lent .store)) (length (lent .work)) a ≡ n → ComesTo n text a lent o → valueOf (o .answer) < 4294967296
-  comesTo-small zero e x = comes-small (reading text) refl (early-text _ _ _ a e) x
-  comesTo-small (suc n) e x = rw x (omega arith)
-
-  pub asked-small : AskedAs text a lent o → valueOf (o .answer) < 4294967296
-  asked-small x = comesTo-small (early (length text) (length (lent .store)) (length (lent .work)) a) refl x
+  comesTo-small : (places work n : ℕ) → early (length text) (length (lent .store)) work a ≡ n → ComesTo places n text a lent o → valueOf (o .answer) < 4294967296
+  comesTo-small places work zero e x = comes-small places (reading text) refl (early-text _ _ _ a e) x
+  comesTo-small places work (suc n) e x = rw x (omega arith)
 
   pub asked-coded : AskedAs text a lent o → coded (o .answer) ≡ numberOf (o .answer) * 4294967296 + valueOf (o .answer)
   unfolding coded
-  asked-coded x = omega (arith, asked-small x)
+  asked-coded x = omega (arith, comesTo-small 24576 (length (lent .work)) (early (length text) (length (lent .store)) (length (lent .work)) a) refl x)
+
+  -- the number for C has the answer's number and its value, none cut off
+  pub bytes-coded : AskedInBytes text a lent o → coded (o .answer) ≡ numberOf (o .answer) * 4294967296 + valueOf (o .answer)
+  unfolding coded
+  bytes-coded x = omega (arith, comesTo-small 49152 (length (lent .work) / 2) (early (length text) (length (lent .store)) (length (lent .work) / 2) a) refl x)

@@ -3,7 +3,7 @@
 use mathlib.Core.Path.{_≡_}
 use mathlib.Core.Bool.{Bool, false, not, cond, _&&_, _||_}
 use mathlib.Core.List.{List, _++_}
-use Prim.Native.Nat.{ℕ, zero, suc, min, _+_, _*_}
+use Prim.Native.Nat.{ℕ, zero, suc, min, _+_, _*_, _/_}
 use lib.Dec.{eqb, leb, ltb}
 use lib.ListN.{length, drop}
 use Rattle.paths.specs.Path.{goodPath}
@@ -107,27 +107,37 @@ cleared n line lent = record {
   left = record { store = zeros 16384 ++ drop 16384 (lent .store); work = lent .work; room = lent .room };
 }
 
--- An accepted ask, and 17, leave the loaded policy in the store and zero in the work area's first 24,576 numbers.
-abbrev pub answering : Policy → List ℕ → Areas → Outcome
-answering P lines lent = record {
+-- An accepted ask, and 17, leave the loaded policy in the store and zero in the work area's first places: 24,576 numbers, or 49,152 bytes.
+abbrev pub answering : ℕ → Policy → List ℕ → Areas → Outcome
+answering places P lines lent = record {
   answer = answerWith lines (lent .room);
   left = record {
     store = layout P ++ drop 16384 (lent .store);
-    work = zeros 24576 ++ drop 24576 (lent .work);
+    work = zeros places ++ drop places (lent .work);
     room = roomWith lines (lent .room);
   };
 }
 
 -- What a text that passed 1 to 6 may come to.
-abbrev pub Comes : Reading → Asked → Areas → Outcome → Type 0
-Comes (refused n line) a lent o = o ≡ cleared n line lent
-Comes (accepted P) a lent o = (lines : List ℕ) × Lines P a lines × (o ≡ answering P lines lent)
+abbrev pub Comes : ℕ → Reading → Asked → Areas → Outcome → Type 0
+Comes places (refused n line) a lent o = o ≡ cleared n line lent
+Comes places (accepted P) a lent o = (lines : List ℕ) × Lines P a lines × (o ≡ answering places P lines lent)
 
 -- What an ask may come to: a law says that there is one outcome.
-abbrev pub ComesTo : ℕ → List ℕ → Asked → Areas → Outcome → Type 0
-ComesTo zero text a lent o = Comes (reading text) a lent o
-ComesTo (suc n) text a lent o = o ≡ unchanged (suc n) lent
+abbrev pub ComesTo : ℕ → ℕ → List ℕ → Asked → Areas → Outcome → Type 0
+ComesTo places zero text a lent o = Comes places (reading text) a lent o
+ComesTo places (suc n) text a lent o = o ≡ unchanged (suc n) lent
 
 -- The statement of the ask.
 abbrev pub AskedAs : List ℕ → Asked → Areas → Outcome → Type 0
-AskedAs text a lent o = ComesTo (early (length text) (length (lent .store)) (length (lent .work)) a) text a lent o
+AskedAs text a lent o = ComesTo 24576 (early (length text) (length (lent .store)) (length (lent .work)) a) text a lent o
+
+-- ---- for C
+
+-- The same with the work area lent as bytes, two a number.
+abbrev pub AskedInBytes : List ℕ → Asked → Areas → Outcome → Type 0
+AskedInBytes text a lent o = ComesTo 49152 (early (length text) (length (lent .store)) (length (lent .work) / 2) a) text a lent o
+
+-- The statement of the ask for C: the answer as one number, and what is left.
+abbrev pub CodedAs : List ℕ → Asked → Areas → ℕ → Areas → Type 0
+CodedAs text a lent code left = (answer : Answer) × (code ≡ coded answer) × AskedInBytes text a lent (record { answer = answer; left = left })

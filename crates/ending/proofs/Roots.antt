@@ -2,7 +2,7 @@
 -- Assumes nothing.
 use mathlib.Core.Path.{_≡_, _∙_, refl, sym, ap}
 use mathlib.Core.Logic.{_⊎_, inl, inr}
-use mathlib.Core.Bool.{Bool, true, false, not, cond, _&&_, _||_, So}
+use mathlib.Core.Bool.{Bool, true, false, not, cond, _&&_, _||_, So, and-false}
 use mathlib.Core.List.{List, [], _∷_, map}
 use Prim.Native.Nat.{ℕ, zero, suc, _+_, _-_, _≤_, _<_}
 use native.Mathlib.Nat.{not-suc-le-zero, le-of-suc-le-suc}
@@ -20,7 +20,7 @@ use Rattle.gran.specs.Policy.{Policy, Object, Entry, DEFAULT}
 use Rattle.gran.specs.Match.{noEntry, subjectPath, objectPath, ofRole, isEntry, subjectsOf, objectsOf}
 use Rattle.gran.specs.Role.{ofKind}
 use Rattle.gran.specs.Good.{isRoot, rolesOf, statesOf}
-use Rattle.gran.proofs.Lists.{all-at, distinct-at, place-is, place-any}
+use Rattle.gran.proofs.Lists.{all-at, distinct-at, place-is, place-any, numbers-next, numbers-end}
 use Rattle.store.specs.Layout.{isSlash, rootOf}
 use Rattle.policy.specs.Load.{lacksEntry, lacksObject, unrooted}
 use Rattle.ending.specs.End.{endRefusal}
@@ -29,35 +29,29 @@ use Rattle.policy.specs.Sound.{SoundObject, SoundEntry, SoundPolicy}
 -- ---- loops
 
 module _ {A : Type 0} (test : A → Bool) (xs : List A) (d : A) (i : ℕ) where
-  pub any-next : i < length xs → (r : Bool) → r ≡ test (getD xs i d) → any test (drop i xs) ≡ (r || any test (drop (i + 1) xs))
-  any-next h r e = rw (add-one, drop-cons xs i d h, e)
-
   pub place-next : i < length xs → (r : Bool) → r ≡ test (getD xs i d) → place test i (drop i xs) ≡ cond r i (place test (i + 1) (drop (i + 1) xs))
   place-next h r e = rw (add-one, drop-cons xs i d h, e)
 
 module _ {A : Type 0} (test : A → Bool) (xs : List A) (i : ℕ) where
-  pub any-end : length xs ≤ i → any test (drop i xs) ≡ false
-  any-end h = rw (drop-of-length-le xs {i = i} h)
-
   pub place-end : length xs ≤ i → place test i (drop i xs) ≡ none
   place-end h = rw (drop-of-length-le xs {i = i} h)
 
 module _ (test : ℕ → Bool) (n i : ℕ) where
   pub number-next : i < n → (r : Bool) → r ≡ test i → any test (numbers i (n - i)) ≡ (r || any test (numbers (i + 1) (n - (i + 1))))
-  number-next h r e = let left : n - i ≡ suc (n - (i + 1)) = omega arith in rw (left, ← add-one i, e)
+  number-next h r e = rw (numbers-next i n h, e)
 
   pub number-end : n ≤ i → any test (numbers i (n - i)) ≡ false
-  number-end h = let left : n - i ≡ 0 = omega arith in rw left
+  number-end h = rw (numbers-end i n h)
 
   pub counted : (count : ℕ) → i < n → (r : Bool) → r ≡ test i → count + length (only test (numbers i (n - i))) ≡ cond r (count + 1) count + length (only test (numbers (i + 1) (n - (i + 1))))
-  counted count h r e = let left : n - i ≡ suc (n - (i + 1)) = omega arith in rw (left, ← add-one i, ← e) (go r)
+  counted count h r e = rw (numbers-next i n h, ← e) (go r)
     where
       go : (b : Bool) → count + length (cond b (i ∷ only test (numbers (i + 1) (n - (i + 1)))) (only test (numbers (i + 1) (n - (i + 1))))) ≡ cond b (count + 1) count + length (only test (numbers (i + 1) (n - (i + 1))))
       go true = omega arith
       go false = omega arith
 
   pub count-end : n ≤ i → length (only test (numbers i (n - i))) ≡ 0
-  count-end h = let left : n - i ≡ 0 = omega arith in rw left
+  count-end h = rw (numbers-end i n h)
 
 -- ---- a default role
 
@@ -85,11 +79,7 @@ pub slash-one : (p : List ℕ) → So (goodPath true p) → isSlash p ≡ eqb (l
 unfolding goodPath isPath
 slash-one [] g = refl
 slash-one (b ∷ []) g = rw (left (eqb b slash) true (left (eqb b slash && true) _ g))
-slash-one (b ∷ (c ∷ bs)) g = go (eqb b slash) ∙ sym (ne-eqb (length (b ∷ (c ∷ bs))) 1 (λ e. omega arith))
-  where
-    go : (t : Bool) → (t && false) ≡ false
-    go true = refl
-    go false = refl
+slash-one (b ∷ (c ∷ bs)) g = and-false (eqb b slash) ∙ sym (ne-eqb (length (b ∷ (c ∷ bs))) 1 (λ e. omega arith))
 
 any-at : {A : Type 0} (test : A → Bool) (xs : List A) (d : A) (i : ℕ) → i < length xs → So (test (getD xs i d)) → So (any test xs)
 any-at test [] d i h t = absurd (not-suc-le-zero h)

@@ -1,7 +1,7 @@
 -- What the store says of the policy that lies there: how long each path is, which entries there are, which objects an entry has.
 -- Assumes nothing.
 use mathlib.Core.Path.{_≡_, _∙_, refl, sym}
-use mathlib.Core.Bool.{Bool, true, false, _&&_}
+use mathlib.Core.Bool.{and-true}
 use mathlib.Core.List.{List, [], _∷_, _++_, map, append-assoc}
 use Prim.Native.Nat.{ℕ, zero, suc, _+_, _-_, _*_, _≤_, _<_}
 use native.Mathlib.Nat.{not-suc-le-zero, le-of-suc-le-suc, add-assoc, add-sub-cancel-left}
@@ -20,16 +20,13 @@ use Rattle.store.specs.Held.{Bounded, Fits, Holds}
 use Rattle.store.specs.declared.Tally.{Tally}
 use Rattle.store.proofs.Entries.{objects-within}
 use Rattle.store.proofs.Regions.{object-row-length, objects-lie}
-use Rattle.store.proofs.Reading.{two-number, place-byte, entry-byte}
+use Rattle.store.proofs.Reading.{two-number, entry-byte}
 use Rattle.store.proofs.Holding.{holds-fits}
 use Rattle.policy.specs.Sound.{SoundPolicy}
 use Rattle.ending.proofs.Roots.{root-here}
 use Rattle.judge.proofs.Rows.{joined-map, Starts, starts-front, starts-skip, starts-taken, rows-length, starts-read, found-objects}
 use Rattle.judge.proofs.Places.{entries-read}
-
-and-true : (b : Bool) → (b && true) ≡ b
-and-true true = refl
-and-true false = refl
+use Rattle.judge.proofs.Found.{path-size}
 
 found-subjects : (s object id : ℕ) (es : List Entry) → hasRow (s ∷ []) (entryRows object id es) ≡ member s (map subjectPath es)
 unfolding hasRow beginsWith entryRow entryRows
@@ -47,12 +44,8 @@ module _ (P : Policy) (rest : List ℕ) (t : Tally) (bytes : List ℕ) (b : Boun
   fits : Fits P
   fits = holds-fits P rest t bytes h b
 
-  path-long : (n : ℕ) → n < length (P .paths) → getD bytes (676 + n * 3 + 2) 0 ≡ length (getD (P .paths) n [])
-  unfolding two
-  path-long n l = rw (add-assoc 676 (n * 3) 2) (place-byte P (zeros 16) rest bytes fits (length-zeros 16) (h .stored) n 2 l (omega arith))
-
   pub slash-read : SoundPolicy P → (n : ℕ) → n < length (P .paths) → isSlash (getD (P .paths) n []) ≡ eqb (getD bytes (676 + n * 3 + 2) 0) 1
-  slash-read sound n l = root-here P sound n l ∙ rw (path-long n l)
+  slash-read sound n l = root-here P sound n l ∙ rw (path-size P rest t bytes b h n l)
 
   pub found-subject : (s : ℕ) → hasRow (s ∷ []) (rowsOf 12 (t .entries) (take 768 (drop 1156 bytes))) ≡ isSubject P s
   unfolding subjects
@@ -81,7 +74,8 @@ module _ (P : Policy) (rest : List ℕ) (t : Tally) (bytes : List ℕ) (b : Boun
         let own = getD (P .entries) n noEntry .objects in
         let before = allObjects (take n (P .entries)) in
         let after = allObjects (drop (suc n) (P .entries)) in
-        let table : Starts (drop 1924 bytes) (joined (map objectRow (allObjects (P .entries)))) = starts-front _ (joined (map objectRow (allObjects (P .entries)))) (zeros (1024 - length (joined (map objectRow (allObjects (P .entries)))))) (drop 2948 bytes, lies-behind (objects-lie P (zeros 16) rest bytes fits (length-zeros 16) (h .stored))) in
+        let rows = joined (map objectRow (allObjects (P .entries))) in
+        let table : Starts (drop 1924 bytes) rows = starts-front _ rows (zeros (1024 - length rows)) (drop 2948 bytes, lies-behind (objects-lie P (zeros 16) rest bytes fits (length-zeros 16) (h .stored))) in
         let split : Starts (drop 1924 bytes) (joined (map objectRow before) ++ (joined (map objectRow own) ++ joined (map objectRow after))) = rw (objects-split (P .entries) n l, joined-map objectRow before (own ++ after), joined-map objectRow own after) at table in
         let here : Starts (drop (1924 + 2 * length before) bytes) (joined (map objectRow own)) = starts-front _ (joined (map objectRow own)) _ (starts-skip bytes 1924 (2 * length before) (joined (map objectRow before)) _ split (omega (arith, rows-length 2 objectRow object-row-length before))) in
         rw (e, f, add-sub-cancel-left, starts-read 2 objectRow object-row-length own _ (length own) (starts-taken _ (joined (map objectRow own)) (2 * length own) here (omega (arith, rows-length 2 objectRow object-row-length own))) refl)

@@ -13,10 +13,7 @@ use Rattle.store.specs.Held.{Holds}
 use Rattle.store.specs.declared.Tally.{Tally}
 use Rattle.policy.specs.Load.{unrooted}
 use Rattle.policy.specs.Sound.{SoundPolicy}
-
--- It holds of any sound policy that the tallies and the bytes hold.
-abbrev pub Answers : Tally → List ℕ → (Policy → Type 0) → Type 0
-Answers t bytes Holding = (P : Policy) (rest : List ℕ) → SoundPolicy P → Holds P rest t bytes → Holding P
+use Rattle.judge.specs.Judge.{Answers}
 
 -- After the last line: 15, 16 too many states, or 0.
 unfoldable pub endRefusal : Policy → ℕ

@@ -12,14 +12,10 @@ ghost use Rattle.gran.specs.Good.{statesOf};
 ghost use Rattle.store.specs.Layout.{rootOf};
 ghost use Rattle.store.specs.Held.{Bounded, Holds};
 ghost use Rattle.policy.specs.Load.{lacksEntry, lacksObject, unrooted};
-ghost use Rattle.ending.specs.End.{Answers, Settled};
+ghost use Rattle.judge.specs.Judge.{Answers};
+ghost use Rattle.ending.specs.End.{Settled};
+use rows::wide;
 use store::Tally;
-
-fn wide(b: u8) -> usize
-    ensures { λ r. ⌜ (r ≡ b) × (r < 256) ⌝ }
-{
-    b as usize
-}
 
 // The number of `/`, or 255: of the paths, it alone has one byte.
 pub fn root_of(store: &[u8], t: Tally) -> u8

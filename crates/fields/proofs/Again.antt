@@ -1,32 +1,19 @@
 -- Reading back what `layout` wrote gives the policy again.
 -- Assumes nothing.
-use mathlib.Core.Path.{_≡_, refl}
-use mathlib.Core.List.{List, [], _∷_}
-use Prim.Native.Nat.{ℕ, suc, _+_, _<_}
-use native.Mathlib.Nat.{add-zero, zero-add}
-use native.Mathlib.Omega.{arith}
+use mathlib.Core.Path.{_≡_}
+use mathlib.Core.List.{List, []}
+use Prim.Native.Nat.{ℕ, _<_}
 use lib.ListN.{length, getD}
 use Rattle.gran.specs.Policy.{Move, Object, Policy}
 use Rattle.gran.specs.Role.{noRole}
 use Rattle.gran.specs.Match.{noEntry}
 use Rattle.store.specs.Held.{Loaded}
-use Rattle.fields.specs.Fields.{roleCount, pathCount, entryCount, moveCount, objectCount, uidCount, gidCount, uidAt, gidAt, row, roleRead, moveRead, objectRead, entryRead, pathIn, policyIn}
+use Rattle.fields.specs.Fields.{roleCount, pathCount, entryCount, moveCount, objectCount, uidCount, gidCount, uidAt, gidAt, roleRead, moveRead, objectRead, entryRead, pathIn, policyIn}
+use Rattle.fields.proofs.Rows.{row-is}
 use Rattle.fields.proofs.Header.{role-count, path-count, entry-count, move-count}
 use Rattle.fields.proofs.Roles.{role-kind, role-id, move-role, move-special}
 use Rattle.fields.proofs.Paths.{path-read}
 use Rattle.fields.proofs.Entries.{entry-subject, entry-role, entry-caps, user-mode, group-mode, object-count, uid-count, gid-count, object-path, object-modes, uid-read, gid-read}
-
--- a row of readings is the list, where their number is its length and each reading is its element
-row-is : {A : Type 0} (f : ℕ → A) (n : ℕ) (xs : List A) (d : A) → n ≡ length xs → ((j : ℕ) → j < length xs → f j ≡ getD xs j d) → row f 0 n ≡ xs
-unfolding row
-row-is {A} f n xs d e same = rw e (go xs 0 (λ j h. rw (zero-add j) (same j h)))
-  where
-    go : (xs : List A) (i : ℕ) → ((j : ℕ) → j < length xs → f (i + j) ≡ getD xs j d) → row f i (length xs) ≡ xs
-    go [] i same = refl
-    go (x ∷ xs) i same =
-        let later : (j : ℕ) → j < length xs → f (suc i + j) ≡ getD xs j d =
-        λ j h. let e : suc i + j ≡ i + suc j = omega arith in rw e (same (suc j) (omega arith)) in
-        rw (go xs (suc i) later, rw (add-zero i) at (same 0 (omega arith)))
 
 module _ {P : Policy} {rest s : List ℕ} (L : Loaded P rest s) where
   role-again : (r : ℕ) → r < length (P .roles) → roleRead s r ≡ getD (P .roles) r noRole

@@ -1,4 +1,5 @@
 pub mod Bytes
+pub mod Rows
 pub mod Header
 pub mod Roles
 pub mod Paths

@@ -1,4 +1,6 @@
 pub mod Lists
+pub mod Members
+pub mod Counting
 pub mod Match
 pub mod Policies
 pub mod Free

@@ -66,7 +66,7 @@ module _ (P : Policy) (good : Good P) where
   unfolding subjects
   subjects-named c m = all-key (λ (e : Entry). e .subject) (GoodEntry P) (λ (n : ℕ). n < length (P .paths)) (λ e g. g .subject) (P .entries) (good .entries) c m
 
-  role-rooted : (r : ℕ) → r < length (P .roles) → Rooted (P .paths) (subjectsOf P r)
+  pub role-rooted : (r : ℕ) → r < length (P .roles) → Rooted (P .paths) (subjectsOf P r)
   role-rooted r l = record { named = λ c m. subjects-named c (subjectsOf-in-S r (eqb c) m); root = good .rooted r l }
 
   -- The default role is one of the roles.
@@ -74,10 +74,10 @@ module _ (P : Policy) (good : Good P) where
   unfolding defaultRole
   default-known = omega (arith, place-any (ofKind DEFAULT) 0 (P .roles) (only-some (ofKind DEFAULT) (P .roles) 0 (good .one-default)))
 
-  S-rooted : Rooted (P .paths) (subjects P)
+  pub S-rooted : Rooted (P .paths) (subjects P)
   S-rooted = record { named = subjects-named; root = subjectsOf-in-S (defaultRole P) (isRoot P) (good .rooted (defaultRole P) default-known) }
 
-  entry-rooted : (e : Entry) → GoodEntry P e → Rooted (P .paths) (objectsOf e)
+  pub entry-rooted : (e : Entry) → GoodEntry P e → Rooted (P .paths) (objectsOf e)
   unfolding objectsOf
   entry-rooted e g = record {
     named = all-key (λ (o : Object). o .path) (GoodObject P) (λ (n : ℕ). n < length (P .paths)) (λ o h. h .path) (e .objects) (g .objects);
@@ -86,7 +86,7 @@ module _ (P : Policy) (good : Good P) where
 
   -- ---- a file and what it stands for
 
-  S-most : (f : List ℕ) → MostSpecific (P .paths) (subjects P) f (subjectOf P f)
+  pub S-most : (f : List ℕ) → MostSpecific (P .paths) (subjects P) f (subjectOf P f)
   unfolding subjectOf
   S-most f = closest-most table S-rooted f
 
@@ -236,7 +236,7 @@ module _ (P : Policy) (good : Good P) where
 
 -- ---- ids
 
-allows-range : (a : Allowed) (n : ℕ) → So (allows a n) → n < noId
+pub allows-range : (a : Allowed) (n : ℕ) → So (allows a n) → n < noId
 unfolding allows allowedBy
 allows-range a n t = ltb-true n noId (left _ _ t)
 

@@ -90,15 +90,15 @@ module _ (P : Policy) (good : Good P) (σ : Real.State) (known : Known P (σ .sp
   unfolding Abstract.role Real.role abstract
   role-same = refl
 
-  role-known : Real.role P σ < length (P .roles)
+  pub role-known : Real.role P σ < length (P .roles)
   unfolding Real.role
   role-known = inForce-known P good (σ .special) _ _ known (roleOf-known P good USER (σ .uid)) (roleOf-known P good GROUP (σ .gid))
 
-  entry-same : Abstract.entry P (abstract P σ) ≡ Real.entry P σ
+  pub entry-same : Abstract.entry P (abstract P σ) ≡ Real.entry P σ
   unfolding Abstract.entry Real.entry Abstract.role Real.role abstract
   entry-same = entryIn-abstract P good (Real.role P σ) role-known (σ .file)
 
-  entry-good : GoodEntry P (Real.entry P σ)
+  pub entry-good : GoodEntry P (Real.entry P σ)
   unfolding Real.entry
   entry-good = entryIn-good P good (Real.role P σ) role-known (σ .file)
 

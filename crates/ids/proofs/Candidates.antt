@@ -17,12 +17,12 @@ use Rattle.gran.specs.Good.{GoodIds, GoodEntry, rolesOf}
 use Rattle.gran.proofs.Free.{free-exists, freeId-least}
 use Rattle.store.specs.Held.{Loaded}
 use Rattle.fields.specs.Fields.{row}
+use Rattle.fields.proofs.Rows.{row-at, row-length}
 use Rattle.lookup.specs.Lookup.{entryAt}
 use Rattle.lookup.proofs.Matches.{good-entry}
 use Rattle.lookup.proofs.Search.{any-place}
 use Rattle.ids.specs.Ids.{allowedOf, idCount, idAt, allowedRead, candidateCount, candidateAt, offered, leastOf}
 use Rattle.ids.proofs.Read.{allowed-read}
-use Rattle.ids.proofs.Rows.{row-at, row-length}
 use Rattle.ids.proofs.Least.{Whole, least-free}
 
 -- under mode 1 an allowed id is listed
@@ -48,7 +48,7 @@ module _ (P : Policy) (s : List ℕ) (k e : ℕ) (good : GoodIds (allowedRead s 
           rw m (freeId P k (allowedRead s k e), F .1, F .0, omega (arith, above))
 
 module _ {P : Policy} {rest s : List ℕ} (L : Loaded P rest s) (k e : ℕ) (known : e < length (P .entries)) where
-  good-ids : GoodIds (allowedOf k (entryAt P e))
+  pub good-ids : GoodIds (allowedOf k (entryAt P e))
   good-ids = go (eqb k USER)
     where
       E : GoodEntry P (entryAt P e)

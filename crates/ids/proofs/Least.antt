@@ -10,8 +10,8 @@ use borrow.Author.Tests.{ltb-true, ltb-false}
 use lib.Dec.{ltb}
 use Rattle.paths.proofs.Bools.{to-false, left}
 use Rattle.gran.specs.Policy.{Policy, Allowed, noId}
-use Rattle.gran.specs.Role.{allowedBy, allows}
 use Rattle.gran.specs.Abstract.{isFree, freeId}
+use Rattle.gran.proofs.Policies.{allows-range}
 use Rattle.gran.proofs.Free.{freeId-is, freeId-none}
 use Rattle.ids.specs.Ids.{offered, leastOf}
 
@@ -47,10 +47,6 @@ abbrev pub Whole : Policy → ℕ → Allowed → (ℕ → ℕ) → ℕ → Type
 Whole P k a candidate n = (x : ℕ) → So (isFree P k a x) → (j : ℕ) × (j < n) × So (isFree P k a (candidate j)) × (candidate j ≤ x)
 
 module _ (P : Policy) (k : ℕ) (a : Allowed) where
-  free-range : (n : ℕ) → So (isFree P k a n) → n < noId
-  unfolding allows allowedBy
-  free-range n t = ltb-true n noId (left _ _ (left _ _ t))
-
   module _ (candidate : ℕ → ℕ) (n : ℕ) (whole : Whole P k a candidate n) where
     abbrev m : ℕ
     m = leastOf (offered P k a candidate) n
@@ -70,6 +66,6 @@ module _ (P : Policy) (k : ℕ) (a : Allowed) where
 
     pub least-free : m ≡ freeId P k a
     least-free = ⊎-elim
-        (λ e. e ∙ sym (freeId-none P k a (λ x. to-false _ (λ t. omega (arith, below x t, free-range x t)))))
+        (λ e. e ∙ sym (freeId-none P k a (λ x. to-false _ (λ t. omega (arith, below x t, allows-range a x (left _ _ t))))))
         (λ t. sym (freeId-is P k a m t (λ x l. to-false _ (λ u. omega (arith, below x u)))))
         free

@@ -17,9 +17,9 @@ use Rattle.store.specs.Held.{Loaded}
 use Rattle.fields.specs.Fields.{row, entryCount, roleCount, roleRead, moveCount, moveRead, userMode, groupMode, uidCount, gidCount, uidAt, gidAt, entryRead, policyIn}
 use Rattle.fields.proofs.Header.{entry-count}
 use Rattle.fields.proofs.Again.{policy-again}
+use Rattle.fields.proofs.Rows.{row-at}
 use Rattle.lookup.specs.Lookup.{entryAt}
 use Rattle.ids.specs.Ids.{allowedOf, idCount, idAt, allowedRead}
-use Rattle.ids.proofs.Rows.{row-at}
 
 -- a default role has the id 0
 default-place : (i : ℕ) (rs : List Role) → All GoodRole rs → place (isRole DEFAULT 0) i rs ≡ place (ofKind DEFAULT) i rs

@@ -5,10 +5,10 @@ ghost use mathlib.Core.List.{List};
 ghost use Prim.Native.Nat.{ℕ, _≤_, _<_};
 ghost use lib.ListN.{length};
 ghost use Rattle.gran.specs.Policy.{Policy, USER, GROUP};
-ghost use Rattle.gran.specs.Lists.{member};
+ghost use Rattle.gran.specs.Lists.{none, member};
 ghost use Rattle.gran.specs.Good.{rolesOf};
 ghost use Rattle.gran.specs.Role.{roleOf, defaultRole, isRole, isMove, mayTake, allows};
-ghost use Rattle.gran.specs.Abstract.{isFree, freeId};
+ghost use Rattle.gran.specs.Abstract.{isFree, freeId, reaches};
 ghost use Rattle.store.specs.Held.{Loaded};
 ghost use Rattle.fields.specs.Fields.{roleRead, moveRead};
 ghost use Rattle.lookup.specs.Lookup.{entryAt};
@@ -211,6 +211,16 @@ fn free_id(store: &[u8], kind: u8, entry: u8) -> u32
         least = lesser(least, free_at(store, kind, entry, i));
     }
     least
+}
+
+// Whether the entry allows an id that has no role of the kind: where it allows all but a few there always is one.
+pub fn has_free(store: &[u8], kind: u8, entry: u8) -> bool
+    ensures { λ r. ⌜ ((P : Policy) (rest : List ℕ) → Loaded P rest (now (store .entry)) → entry < length (P .entries) → length (rolesOf P kind) ≤ 15 → r ≡ reaches P kind (allowedOf kind (entryAt P entry)) none) ⌝ }
+{
+    if mode(store, kind, entry) != 1 {
+        return true;
+    }
+    free_id(store, kind, entry) != gran::NO_ID
 }
 
 // The smallest UID that the entry allows and that has no role.

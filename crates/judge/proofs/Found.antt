@@ -1,7 +1,7 @@
 -- What each search of the store says of the policy that lies there.
 -- Assumes nothing.
-use mathlib.Core.Path.{_≡_, _∙_, refl, ap}
-use mathlib.Core.Bool.{Bool, true, false, _||_}
+use mathlib.Core.Path.{_≡_, _∙_, ap}
+use mathlib.Core.Bool.{or-false}
 use mathlib.Core.List.{List, [], _∷_, map}
 use Prim.Native.Nat.{ℕ, _+_, _-_, _*_, _/_, _%_, _≤_, _<_}
 use native.Mathlib.Nat.{add-assoc, add-sub-cancel-left, le-refl}
@@ -18,6 +18,7 @@ use Rattle.gran.specs.Policy.{Policy, Entry, noId}
 use Rattle.gran.specs.Match.{noEntry, objectsOf, isEntry}
 use Rattle.gran.specs.Role.{noRole, isRole, isMove}
 use Rattle.gran.specs.Good.{GoodRole}
+use Rattle.gran.proofs.Members.{all-of}
 use Rattle.store.specs.Layout.{four, two, roleRow, moveRow, idsAt}
 use Rattle.store.specs.Held.{Bounded, Holds, lastEntry}
 use Rattle.store.specs.declared.Tally.{Tally}
@@ -26,7 +27,7 @@ use Rattle.store.proofs.Finding.{has-row-any}
 use Rattle.store.proofs.Holding.{holds-fits}
 use Rattle.policy.specs.Sound.{SoundEntry, SoundPolicy}
 use Rattle.policy.proofs.More.{all-imply}
-use Rattle.judge.proofs.Rows.{found, found-entries, found-objects, four-begins, role-begins, move-begins, entry-begins, begins-same}
+use Rattle.judge.proofs.Rows.{found-entries, found-objects, four-begins, role-begins, move-begins, entry-begins, begins-same}
 use Rattle.judge.proofs.Places.{roles-read, entries-read, objects-read, moves-read, uids-read, gids-read}
 
 -- what holds of each entry, and of none, holds of the last
@@ -41,15 +42,11 @@ InRange ids = All (λ (n : ℕ). n < noId) ids
 
 found-id : (n : ℕ) (ids : List ℕ) → n < 4294967296 → InRange ids → hasRow (four n) (map four ids) ≡ member n ids
 unfolding four InRange
-found-id n ids h good = found four (four n) (eqb n) ids (all-imply (λ (m : ℕ). m < noId) _ (λ m l. four-begins n m h (omega arith) []) ids good)
-
-or-false : (a : Bool) → (a || false) ≡ a
-or-false true = refl
-or-false false = refl
+found-id n ids h good = has-row-any four (eqb n) (four n) ids (all-imply (λ (m : ℕ). m < noId) _ (λ m l. four-begins n m h (omega arith) []) ids good)
 
 module _ (P : Policy) (rest : List ℕ) (t : Tally) (bytes : List ℕ) (b : Bounded t) (h : Holds P rest t bytes) where
   pub found-move : (r s k : ℕ) → t .moves * 2 ≤ k → hasRow (r ∷ s ∷ []) (rowsOf 2 (t .moves) (take k (drop (2948 + t .bytes) bytes))) ≡ any (isMove r s) (P .moves)
-  found-move r s k room = rw (moves-read P rest t bytes b h k room) (has-row-any moveRow (isMove r s) (r ∷ s ∷ []) (move-begins r s) (P .moves))
+  found-move r s k room = rw (moves-read P rest t bytes b h k room) (has-row-any moveRow (isMove r s) (r ∷ s ∷ []) (P .moves) (all-of _ (P .moves) (λ m k. move-begins r s m)))
 
   pub found-entry : (r s : ℕ) → hasRow (s ∷ r ∷ []) (rowsOf 12 (t .entries) (take 768 (drop 1156 bytes))) ≡ any (isEntry r s) (P .entries)
   found-entry r s = rw (entries-read P rest t bytes b h) (found-entries (s ∷ r ∷ []) (isEntry r s) (entry-begins s r) 0 (idsAt P) (P .entries))
@@ -63,7 +60,7 @@ module _ (P : Policy) (rest : List ℕ) (t : Tally) (bytes : List ℕ) (b : Boun
     pub found-role : (kind n : ℕ) → n < 4294967296 → hasRow (kind ∷ four n) (rowsOf 22 (t .users + t .groups + t .specials + t .defaults) (take 660 (drop 16 bytes))) ≡ any (isRole kind n) (P .roles)
     found-role kind n l =
         rw (roles-read P rest t bytes b h)
-        (found roleRow (kind ∷ four n) (isRole kind n) (P .roles) (all-imply GoodRole _ (λ r g. role-begins kind n r l (omega (arith, g .id-range))) (P .roles) (sound .roles .good)))
+        (has-row-any roleRow (isRole kind n) (kind ∷ four n) (P .roles) (all-imply GoodRole _ (λ r g. role-begins kind n r l (omega (arith, g .id-range))) (P .roles) (sound .roles .good)))
 
     pub found-uid : (n : ℕ) → n < 4294967296 → hasRow (four n) (rowsOf 4 (t .last .uids) (drop (2948 + t .bytes + 2 * t .moves + 4 * (t .ids - t .last .gids - t .last .uids)) bytes)) ≡ member n (lastEntry (P .entries) .users .ids)
     unfolding InRange

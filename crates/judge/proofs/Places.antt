@@ -52,7 +52,8 @@ module _ (P : Policy) (rest : List ℕ) (t : Tally) (bytes : List ℕ) (b : Boun
   objects-read k room =
       let own = lastEntry (P .entries) .objects in
       let l = last-objects (P .entries) in
-      let table : Starts (drop 1924 bytes) (joined (map objectRow (allObjects (P .entries)))) = starts-front _ (joined (map objectRow (allObjects (P .entries)))) (zeros (1024 - length (joined (map objectRow (allObjects (P .entries)))))) (drop 2948 bytes, lies-behind (objects-lie P (zeros 16) rest bytes fits (length-zeros 16) (h .stored))) in
+      let rows = joined (map objectRow (allObjects (P .entries))) in
+      let table : Starts (drop 1924 bytes) rows = starts-front _ rows (zeros (1024 - length rows)) (drop 2948 bytes, lies-behind (objects-lie P (zeros 16) rest bytes fits (length-zeros 16) (h .stored))) in
       let long : length (joined (map objectRow (l .0))) ≡ 2 * (t .objects - t .last .objects) =
       omega (arith, rows-length 2 objectRow object-row-length (l .0), h .objects, h .last-objects, ap length (l .1), length-append (l .0) own) in
       starts-read 2 objectRow object-row-length own _ (t .last .objects)

@@ -1,22 +1,21 @@
 -- Rows in bytes, and what a search of them says of the elements that they stand for.
 -- Assumes nothing.
 use mathlib.Core.Path.{_≡_, _∙_, refl, ap, sym}
-use mathlib.Core.Bool.{Bool, true, false, _&&_, _||_, So}
+use mathlib.Core.Bool.{Bool, true, false, _&&_, So, and-true}
 use mathlib.Core.List.{List, [], _∷_, _++_, map, append-assoc}
 use Prim.Native.Nat.{ℕ, _+_, _-_, _*_, _/_, _%_, _≤_, _<_}
 use native.Mathlib.Omega.{arith}
 use lib.Dec.{eqb}
 use borrow.Author.Tests.{eq-eqb}
-use native.Mathlib.Numerals.{add-one}
-use lib.ListN.{length, getD, take, drop, length-map, drop-of-length-le}
-use lib.Seq.{drop-at, take-append-add, drop-drop, drop-cons}
+use lib.ListN.{length, take, drop, length-map}
+use lib.Seq.{drop-at, take-append-add, drop-drop}
 use Rattle.paths.specs.Path.{same}
 use Rattle.paths.proofs.Bools.{iff-≡, left, right, eqb-of, eqb-to, to-false}
 use Rattle.paths.proofs.Paths.{same→≡}
 use Rattle.lines.specs.Line.{zeros}
 use Rattle.rows.specs.Rows.{joined, rowsOf, beginsWith, hasRow}
 use Rattle.rows.proofs.Tables.{joined-length, rows-read, wide-map}
-use Rattle.gran.specs.Lists.{any, member, All}
+use Rattle.gran.specs.Lists.{any, member}
 use Rattle.gran.specs.Policy.{Role, Move, Object, Entry}
 use Rattle.gran.specs.Match.{objectPath, isEntry}
 use Rattle.gran.specs.Role.{isRole, isMove}
@@ -54,11 +53,6 @@ starts-read width row wide xs bytes n (rest, e) c = rw (e, c, ← length-map xs 
 
 -- ---- a search of rows is a test of elements
 
-pub found : {A : Type 0} (row : A → List ℕ) (key : List ℕ) (test : A → Bool) (xs : List A) → All (λ (x : A). beginsWith key (row x) ≡ test x) xs → hasRow key (map row xs) ≡ any test xs
-unfolding hasRow
-found row key test [] h = refl
-found row key test (x ∷ xs) h = rw (h .0, found row key test xs (h .1))
-
 pub found-entries : (key : List ℕ) (test : Entry → Bool) → ((object id : ℕ) (e : Entry) → beginsWith key (entryRow object id e) ≡ test e) → (object id : ℕ) (es : List Entry) →
     hasRow key (entryRows object id es) ≡ any test es
 unfolding hasRow entryRows
@@ -69,10 +63,6 @@ found-entries key test f object id (e ∷ es) = rw (f object id e, found-entries
 
 pub eqb-sym : (m n : ℕ) → eqb m n ≡ eqb n m
 eqb-sym m n = iff-≡ _ _ (λ t. eqb-of (sym (eqb-to m n t))) (λ t. eqb-of (sym (eqb-to n m t)))
-
-and-true : (b : Bool) → (b && true) ≡ b
-and-true true = refl
-and-true false = refl
 
 begins-self : (xs ys : List ℕ) → So (beginsWith xs (xs ++ ys))
 unfolding beginsWith
@@ -135,11 +125,3 @@ begins-same (b ∷ p) (c ∷ q) e = rw (begins-same p q (omega arith))
 
 pub same-long : (p q : List ℕ) → (length p ≡ length q → ⊥) → same p q ≡ false
 same-long p q n = to-false _ (λ t. n (ap length (same→≡ p q t)))
-
--- a test of the paths from one on
-module _ (test : List ℕ → Bool) (ps : List (List ℕ)) (i : ℕ) where
-  pub any-next : i < length ps → (r : Bool) → r ≡ test (getD ps i []) → any test (drop i ps) ≡ (r || any test (drop (i + 1) ps))
-  any-next h r e = rw (add-one, drop-cons ps i [] h, e)
-
-  pub any-end : length ps ≤ i → any test (drop i ps) ≡ false
-  any-end h = rw (drop-of-length-le ps {i = i} h)

@@ -14,17 +14,11 @@ use policy::frame;
 pub mod range; // range.rt: refusal 10, whether the fields are in range
 pub mod second; // second.rt: refusal 11, whether the policy has a thing already
 
-fn wide(b: u8) -> usize
-    ensures { λ r. ⌜ (r ≡ b) × (r < 256) ⌝ }
-{
-    b as usize
-}
-
 // Whether the frame says again what the policy so far has.
 fn is_second(store: &[u8], t: store::Tally, frame: lines::Frame) -> bool
     requires { ⌜ Bounded t ⌝ }
     requires { ⌜ (1 ≤ frame .size) × (frame .size ≤ length (frame .bytes)) × (16384 ≤ length (now store)) ⌝ }
-    ensures { λ r. ⌜ Answers t (now (store .entry)) r (λ (P : Policy). isSecond P frame) ⌝ }
+    ensures { λ r. ⌜ Answers t (now (store .entry)) (λ (P : Policy). r ≡ isSecond P frame) ⌝ }
 {
     match frame::byte(frame, 0) {
         0x10 => second::has_role(store, t, frame::byte(frame, 1), frame::number4(frame, 2)),
@@ -73,7 +67,7 @@ fn is_full(t: store::Tally, frame: lines::Frame) -> bool
 pub fn refusal(store: &[u8], t: store::Tally, last: u8, lines: usize, frame: lines::Frame) -> u8
     requires { ⌜ Bounded t ⌝ }
     requires { ⌜ (1 ≤ frame .size) × (frame .size ≤ length (frame .bytes)) × (16384 ≤ length (now store)) ⌝ }
-    ensures { λ r. ⌜ Answers t (now (store .entry)) r (λ (P : Policy). frameRefusal (loadOf last lines P) frame) ⌝ }
+    ensures { λ r. ⌜ Answers t (now (store .entry)) (λ (P : Policy). r ≡ frameRefusal (loadOf last lines P) frame) ⌝ }
 {
     let kind = frame::byte(frame, 0);
     if !frame::fits_type(kind, frame.size - 1) {

@@ -8,16 +8,17 @@ ghost use Rattle.store.specs.Held.{Bounded, Holds};
 ghost use Rattle.policy.specs.Frames.{moveFrom, entryFrom, objectFrom, idFrom, goodMove, goodEntry, goodObject, goodId, inRange};
 ghost use Rattle.judge.specs.Judge.{Answers};
 use policy::frame;
+use rows::wide;
 
 // 30: both numbers name roles, the second a special one.
 fn is_good_move(store: &[u8], t: store::Tally, frame: lines::Frame) -> bool
     requires { ⌜ Bounded t ⌝ }
     requires { ⌜ 16384 ≤ length (now store) ⌝ }
-    ensures { λ r. ⌜ Answers t (now (store .entry)) r (λ (P : Policy). goodMove (P .roles) (moveFrom frame)) ⌝ }
+    ensures { λ r. ⌜ Answers t (now (store .entry)) (λ (P : Policy). r ≡ goodMove (P .roles) (moveFrom frame)) ⌝ }
 {
     let roles = t.users + t.groups + t.specials + t.defaults;
-    let from = super::wide(frame::byte(frame, 1));
-    let special = super::wide(frame::byte(frame, 2));
+    let from = wide(frame::byte(frame, 1));
+    let special = wide(frame::byte(frame, 2));
     if roles <= from {
         return false;
     }
@@ -33,10 +34,10 @@ fn is_good_entry(t: store::Tally, frame: lines::Frame) -> bool
     ensures { λ r. ⌜ ((P : Policy) (rest bytes : List ℕ) → Holds P rest t bytes → r ≡ goodEntry P (entryFrom frame)) ⌝ }
 {
     let roles = t.users + t.groups + t.specials + t.defaults;
-    if roles <= super::wide(frame::byte(frame, 1)) {
+    if roles <= wide(frame::byte(frame, 1)) {
         return false;
     }
-    if t.paths <= super::wide(frame::byte(frame, 2)) {
+    if t.paths <= wide(frame::byte(frame, 2)) {
         return false;
     }
     if 4 <= frame::byte(frame, 3) {
@@ -52,7 +53,7 @@ fn is_good_entry(t: store::Tally, frame: lines::Frame) -> bool
 fn is_good_object(t: store::Tally, frame: lines::Frame) -> bool
     ensures { λ r. ⌜ ((P : Policy) (rest bytes : List ℕ) → Holds P rest t bytes → r ≡ goodObject P (objectFrom frame)) ⌝ }
 {
-    if t.paths <= super::wide(frame::byte(frame, 1)) {
+    if t.paths <= wide(frame::byte(frame, 1)) {
         return false;
     }
     frame::byte(frame, 2) < 32
@@ -72,7 +73,7 @@ fn is_good_id(mode: u8, frame: lines::Frame) -> bool
 pub fn in_range(store: &[u8], t: store::Tally, frame: lines::Frame) -> bool
     requires { ⌜ Bounded t ⌝ }
     requires { ⌜ (1 ≤ frame .size) × (frame .size ≤ length (frame .bytes)) × (16384 ≤ length (now store)) ⌝ }
-    ensures { λ r. ⌜ Answers t (now (store .entry)) r (λ (P : Policy). inRange P frame) ⌝ }
+    ensures { λ r. ⌜ Answers t (now (store .entry)) (λ (P : Policy). r ≡ inRange P frame) ⌝ }
 {
     match frame::byte(frame, 0) {
         0x01 => frame::byte(frame, 1) == 1,

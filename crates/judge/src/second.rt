@@ -14,29 +14,19 @@ ghost use Rattle.store.specs.Layout.{four};
 ghost use Rattle.store.specs.Held.{Bounded, Holds, lastEntry};
 ghost use Rattle.policy.specs.Frames.{hasRole};
 ghost use Rattle.judge.specs.Judge.{Answers, role};
-
-// The bytes of an id, as rows hold it.
-fn id_key(id: u32) -> [u8; 4]
-    ensures { λ r. ⌜ r ≡ four id ⌝ }
-{
-    [
-        (id / 16777216 % 256) as u8,
-        (id / 65536 % 256) as u8,
-        (id / 256 % 256) as u8,
-        (id % 256) as u8,
-    ]
-}
+use rows::wide;
+use store::id_bytes;
 
 // A user with this UID, a group with this GID, or a default; special roles are never the same.
 pub fn has_role(store: &[u8], t: store::Tally, kind: u8, id: u32) -> bool
     requires { ⌜ Bounded t ⌝ }
     requires { ⌜ 16384 ≤ length (now store) ⌝ }
-    ensures { λ r. ⌜ Answers t (now (store .entry)) r (λ (P : Policy). hasRole (P .roles) (role kind id)) ⌝ }
+    ensures { λ r. ⌜ Answers t (now (store .entry)) (λ (P : Policy). r ≡ hasRole (P .roles) (role kind id)) ⌝ }
 {
     if kind == 0x73 {
         return false;
     }
-    let number = id_key(id);
+    let number = id_bytes(id);
     let key = [kind, number[0], number[1], number[2], number[3]];
     let count = t.users + t.groups + t.specials + t.defaults;
     rows::has_row(&store[16..676], 22, count, &key)
@@ -46,7 +36,7 @@ pub fn has_role(store: &[u8], t: store::Tally, kind: u8, id: u32) -> bool
 pub fn has_move(store: &[u8], t: store::Tally, from: u8, special: u8) -> bool
     requires { ⌜ Bounded t ⌝ }
     requires { ⌜ 16384 ≤ length (now store) ⌝ }
-    ensures { λ r. ⌜ Answers t (now (store .entry)) r (λ (P : Policy). any (isMove from special) (P .moves)) ⌝ }
+    ensures { λ r. ⌜ Answers t (now (store .entry)) (λ (P : Policy). r ≡ any (isMove from special) (P .moves)) ⌝ }
 {
     let key = [from, special];
     let count = t.moves;
@@ -58,7 +48,7 @@ pub fn has_move(store: &[u8], t: store::Tally, from: u8, special: u8) -> bool
 pub fn has_entry(store: &[u8], t: store::Tally, of: u8, subject: u8) -> bool
     requires { ⌜ Bounded t ⌝ }
     requires { ⌜ 16384 ≤ length (now store) ⌝ }
-    ensures { λ r. ⌜ Answers t (now (store .entry)) r (λ (P : Policy). any (isEntry of subject) (P .entries)) ⌝ }
+    ensures { λ r. ⌜ Answers t (now (store .entry)) (λ (P : Policy). r ≡ any (isEntry of subject) (P .entries)) ⌝ }
 {
     let key = [subject, of];
     let count = t.entries;
@@ -69,7 +59,7 @@ pub fn has_entry(store: &[u8], t: store::Tally, of: u8, subject: u8) -> bool
 pub fn has_object(store: &[u8], t: store::Tally, path: u8) -> bool
     requires { ⌜ Bounded t ⌝ }
     requires { ⌜ 16384 ≤ length (now store) ⌝ }
-    ensures { λ r. ⌜ Answers t (now (store .entry)) r (λ (P : Policy). member path (objectsOf (lastEntry (P .entries)))) ⌝ }
+    ensures { λ r. ⌜ Answers t (now (store .entry)) (λ (P : Policy). r ≡ member path (objectsOf (lastEntry (P .entries)))) ⌝ }
 {
     let key = [path];
     let count = t.last.objects;
@@ -82,7 +72,7 @@ fn has_id(store: &[u8], at: usize, count: usize, id: u32) -> bool
     requires { ⌜ (at + count * 4 ≤ 16384) × (16384 ≤ length (now store)) ⌝ }
     ensures { λ r. ⌜ r ≡ hasRow (four id) (rowsOf 4 count (drop at (now (store .entry)))) ⌝ }
 {
-    let key = id_key(id);
+    let key = id_bytes(id);
     rows::has_row(&store[at..], 4, count, &key)
 }
 
@@ -90,7 +80,7 @@ fn has_id(store: &[u8], at: usize, count: usize, id: u32) -> bool
 pub fn has_uid(store: &[u8], t: store::Tally, id: u32) -> bool
     requires { ⌜ Bounded t ⌝ }
     requires { ⌜ 16384 ≤ length (now store) ⌝ }
-    ensures { λ r. ⌜ Answers t (now (store .entry)) r (λ (P : Policy). member id (lastEntry (P .entries) .users .ids)) ⌝ }
+    ensures { λ r. ⌜ Answers t (now (store .entry)) (λ (P : Policy). r ≡ member id (lastEntry (P .entries) .users .ids)) ⌝ }
 {
     let count = t.last.uids;
     let before = t.ids - t.last.gids - count;
@@ -101,7 +91,7 @@ pub fn has_uid(store: &[u8], t: store::Tally, id: u32) -> bool
 pub fn has_gid(store: &[u8], t: store::Tally, id: u32) -> bool
     requires { ⌜ Bounded t ⌝ }
     requires { ⌜ 16384 ≤ length (now store) ⌝ }
-    ensures { λ r. ⌜ Answers t (now (store .entry)) r (λ (P : Policy). member id (lastEntry (P .entries) .groups .ids)) ⌝ }
+    ensures { λ r. ⌜ Answers t (now (store .entry)) (λ (P : Policy). r ≡ member id (lastEntry (P .entries) .groups .ids)) ⌝ }
 {
     let count = t.last.gids;
     let before = t.ids - count;
@@ -114,11 +104,11 @@ pub fn is_path(store: &[u8], number: usize, path: &[u8]) -> bool
     ensures { λ r. ⌜ ((P : Policy) (rest : List ℕ) (t : Tally) → Bounded t → Holds P rest t (now (store .entry)) → number < length (P .paths) → r ≡ same (now (path .entry)) (getD (P .paths) number [])) ⌝ }
 {
     let row = 676 + number * 3;
-    let size = super::wide(store[row + 2]);
+    let size = wide(store[row + 2]);
     if path.len() != size {
         return false;
     }
-    let at = 2948 + super::wide(store[row]) * 256 + super::wide(store[row + 1]);
+    let at = 2948 + wide(store[row]) * 256 + wide(store[row + 1]);
     let end = at + size;
     if store.len() < end {
         return false;
@@ -130,7 +120,7 @@ pub fn is_path(store: &[u8], number: usize, path: &[u8]) -> bool
 pub fn has_path(store: &[u8], t: store::Tally, path: &[u8]) -> bool
     requires { ⌜ Bounded t ⌝ }
     requires { ⌜ 16384 ≤ length (now store) ⌝ }
-    ensures { λ r. ⌜ Answers t (now (store .entry)) r (λ (P : Policy). any (same (now (path .entry))) (P .paths)) ⌝ }
+    ensures { λ r. ⌜ Answers t (now (store .entry)) (λ (P : Policy). r ≡ any (same (now (path .entry))) (P .paths)) ⌝ }
 {
     let count = t.paths;
     let mut i = 0;

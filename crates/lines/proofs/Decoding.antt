@@ -151,16 +151,7 @@ pub record Framed (line : List ℕ) (frame : Frame) : Type 0 where
   pub byte : (i : ℕ) → getD (frame .bytes) i 0 ≡ getD (bytesOf line) i 0
 
 module _ (line : List ℕ) (frame : Frame) (e : frame ≡ decoded line) where
-  -- size 0 says refusal 7
-  pub size-bad : frame .size ≡ 0 → goodLine line ≡ false
-  unfolding frameOf
-  size-bad z = go (goodLine line) refl
-    where
-      go : (t : Bool) → goodLine line ≡ t → goodLine line ≡ false
-      go true g = absurd (omega (arith, half-length line g, rw (e, decoded-good line g) at z))
-      go false g = g
-
-  -- any other size, a good line
+  -- any size but 0, which says refusal 7: a good line
   pub size-good : (frame .size ≡ 0 → ⊥) → Framed line frame
   unfolding frameOf
   size-good n = go (goodLine line) refl

@@ -2,9 +2,9 @@
 -- Assumes nothing.
 use mathlib.Core.Path.{_≡_, _∙_, refl, sym, ap}
 use mathlib.Core.Logic.{_⊎_, inl, inr}
-use mathlib.Core.Bool.{Bool, true, false, not, cond, So}
+use mathlib.Core.Bool.{Bool, true, false, cond, So}
 use mathlib.Core.List.{List, [], _∷_, _++_}
-use Prim.Native.Nat.{ℕ, zero, suc, _+_, _*_, _≤_, _<_}
+use Prim.Native.Nat.{ℕ, zero, suc, _+_, _≤_}
 use native.Mathlib.Omega.{arith}
 use borrow.Author.Tests.{ltb-false}
 use lib.Dec.{eqb, ltb}
@@ -12,16 +12,16 @@ use lib.ListN.{length, drop, length-append}
 use Rattle.paths.proofs.Bools.{decide}
 use Rattle.lines.specs.Line.{linesOf, prepend, decoded}
 use Rattle.rows.specs.Rows.{joined}
+use Rattle.gran.proofs.Counting.{few-roles}
 use Rattle.gran.specs.Policy.{Policy}
 use Rattle.gran.specs.Good.{statesOf}
 use Rattle.store.specs.Layout.{allIds, movesAt, idsAt}
 use Rattle.store.specs.Held.{Fits, Loaded}
 use Rattle.store.proofs.Reading.{pool-used}
-use Rattle.policy.specs.Load.{Load, start, after, refusalOf, Progress, going, stopped, stepBy, step, run, unrooted, Reading, refused, accepted, finish, reading, settled, outcome, LoadedAs}
-use Rattle.policy.specs.Sound.{SoundPolicy, leastText, Roomy}
+use Rattle.policy.specs.Load.{Load, start, after, refusalOf, Progress, going, stopped, stepBy, step, run, unrooted, accepted, finish, reading, settled, outcome, LoadedAs}
+use Rattle.policy.specs.Sound.{SoundPolicy, leastText}
 use Rattle.policy.proofs.Accepted.{accepted-good}
 use Rattle.policy.proofs.Loads.{SoundProgress, sound-start, sound-run, run-stopped}
-use Rattle.policy.proofs.Moves.{few-roles}
 use Rattle.policy.proofs.Room.{roomy, text-line}
 
 -- the lines of a text are the text
@@ -85,7 +85,7 @@ unfolding idsAt movesAt
 sound-fits P sound short =
     let room = roomy P sound short in
     record {
-      roles = few-roles (P .roles) (sound .roles);
+      roles = few-roles (P .roles) (sound .roles .good) (sound .roles .few-users) (sound .roles .few-groups) (sound .roles .few-specials) (sound .roles .few-defaults);
       paths = sound .paths .few;
       entries = sound .entries .few;
       objects = sound .entries .few-objects;

@@ -21,7 +21,7 @@ use Rattle.store.proofs.Growing.{only-more, ids-more, last-split, on-last}
 use Rattle.policy.specs.Frames.{byteAt, typeOf, roleFrom, pathFrom, moveFrom, idFrom, isFull}
 use Rattle.policy.specs.Load.{Load, add, after}
 use Rattle.policy.specs.Sound.{SoundRoles, Sound, Roomy}
-use Rattle.policy.proofs.More.{length-more}
+use Rattle.gran.proofs.Lists.{length-more}
 use Rattle.policy.proofs.Types.{Other, by-type}
 use Rattle.policy.proofs.Refusals.{Passed}
 use Rattle.policy.proofs.Adding.{sound-after}
@@ -73,20 +73,7 @@ module _ (s : Load) (f : Frame) (sound : Sound s) (small : Bytes (f .bytes)) (p 
       let free : length (s .policy .paths) < 96 = leb-false 96 _ (rw e at (p .free)) in
       let long : length (joined (s .policy .paths ++ (pathFrom f ∷ []))) ≡ length (joined (s .policy .paths)) + length (pathFrom f) = ap length (joined-append (s .policy .paths) (pathFrom f)) ∙ length-append (joined (s .policy .paths)) (pathFrom f) in
       let pool : t .bytes + length (pathFrom f) + 2 * t .moves + 4 * t .ids ≤ 13436 = omega (arith, more .pool, long, h .path-bytes, h .moves, h .ids) in
-      let paths : t .paths + 1 ≤ 96 = omega (arith, h .paths) in
-      record {
-        users = b .users;
-        groups = b .groups;
-        specials = b .specials;
-        defaults = b .defaults;
-        paths = paths;
-        moves = b .moves;
-        entries = b .entries;
-        objects = b .objects;
-        pool = pool;
-        last-objects = b .last-objects;
-        last-ids = b .last-ids;
-      }
+      omega (arith, h .paths)
 
   move-bounded : typeOf f ≡ 0x30 → Bounded (moveTally t)
   unfolding add movesAt
@@ -95,19 +82,7 @@ module _ (s : Load) (f : Frame) (sound : Sound s) (small : Bytes (f .bytes)) (p 
       let long = length-more (s .policy .moves) (moveFrom f) in
       let moves : t .moves + 1 ≤ 210 = omega (arith, more .moves, h .moves) in
       let pool : t .bytes + 2 * (t .moves + 1) + 4 * t .ids ≤ 13436 = omega (arith, more .pool, h .path-bytes, h .moves, h .ids) in
-      record {
-        users = b .users;
-        groups = b .groups;
-        specials = b .specials;
-        defaults = b .defaults;
-        paths = b .paths;
-        moves = moves;
-        entries = b .entries;
-        objects = b .objects;
-        pool = pool;
-        last-objects = b .last-objects;
-        last-ids = b .last-ids;
-      }
+      omega arith
 
   -- what belongs to entries changes, and the rest is as it was
   entry-bounded : typeOf f ≡ 0x40 → Bounded (entryTally t (byteAt f 4) (byteAt f 5))

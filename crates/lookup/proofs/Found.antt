@@ -1,9 +1,9 @@
 -- What is found in the bytes of a loaded store: grades, and the best places by them.
 -- Assumes nothing.
-use mathlib.Core.Path.{_≡_, refl, _∙_}
-use mathlib.Core.Logic.{inl, _≢_}
+use mathlib.Core.Path.{_≡_, _∙_}
+use mathlib.Core.Logic.{_≢_}
 use mathlib.Core.Bool.{true, So}
-use mathlib.Core.List.{List, [], map}
+use mathlib.Core.List.{List, []}
 use Prim.Native.Nat.{ℕ, _+_, _<_}
 use native.Mathlib.Omega.{arith}
 use borrow.Author.Tests.{le-leb}
@@ -12,14 +12,11 @@ use lib.ListN.{length, getD, set}
 use lib.Seq.{getD-set-same, getD-set-other}
 use Rattle.paths.specs.Path.{goodPath}
 use Rattle.paths.proofs.Paths.{good-short}
-use Rattle.paths.proofs.Bools.{right}
-use Rattle.gran.specs.Lists.{none, any}
 use Rattle.gran.specs.Policy.{Policy, Object}
-use Rattle.gran.specs.Match.{pathAt, subjectPath, objectPath, ofRole, noEntry, subjectsOf, subjectOf, objectsOf, objectIn, modesOf}
-use Rattle.gran.specs.Role.{inForce}
-use Rattle.gran.specs.Good.{GoodObject, isRoot}
-use Rattle.gran.proofs.Lists.{all-at, any-map, only-any}
-use Rattle.gran.proofs.Policies.{inForce-known}
+use Rattle.gran.specs.Match.{pathAt, subjectPath, objectPath, ofRole, noEntry, subjects, subjectsOf, subjectOf, objectsOf, objectIn, modesOf}
+use Rattle.gran.specs.Good.{GoodObject}
+use Rattle.gran.proofs.Lists.{all-at}
+use Rattle.gran.proofs.Policies.{S-rooted, role-rooted, entry-rooted}
 use Rattle.store.specs.Held.{Loaded}
 use Rattle.fields.specs.Fields.{entryCount, entrySubject, objectCount, objectPathAt, objectModesAt}
 use Rattle.fields.proofs.Header.{entry-count}
@@ -47,31 +44,22 @@ module _ {P : Policy} {rest s : List ℕ} (L : Loaded P rest s) (f : List ℕ) w
   subject-named : (e : ℕ) → e < length (P .entries) → entryAt P e .subject < length (P .paths)
   subject-named e l = good-entry P (L .good) e l .subject
 
-  -- the entry for `/` of a role is one of all
-  S-root : So (any (isRoot P) (map subjectPath (P .entries)))
-  S-root =
-      any-map _ subjectPath (isRoot P) (λ e t. right (ofRole r e) _ t) (P .entries)
-      (only-any (ofRole r) subjectPath (isRoot P) (P .entries) (unfold subjectsOf in L .good .rooted r (inForce-known P (L .good) none none none (inl refl) (inl refl) (inl refl))))
-    where
-      r : ℕ
-      r = inForce P none none none
-
   module _ (of : List ℕ) (graded : Graded P f of) where
     subject-grade : (e : ℕ) → e < length (P .entries) → getD of (entrySubject s e) 0 ≡ gradeOf P f (entryAt P e .subject)
     subject-grade e l = rw (entry-subject L e l) (graded _ (subject-named e l))
 
     pub subject-found : entrySubject s (bestOf (gradeAt s of Subjects) (entryCount s) .place) ≡ subjectOf P f
-    unfolding gradeAt
+    unfolding gradeAt subjects
     subject-found = rw (entry-count L) (entry-subject L _ (p .inside) ∙ subject-picked P (L .good) f _ p)
       where
         p : Picked P f always subjectPath noEntry (P .entries) (bestOf (gradeAt s of Subjects) (length (P .entries)) .place)
-        p = picked P (L .good) f always subjectPath noEntry (P .entries) subject-named (rw (only-all (P .entries)) S-root) (gradeAt s of Subjects) subject-grade
+        p = picked P (L .good) f always subjectPath noEntry (P .entries) (rw (only-all (P .entries)) (S-rooted P (L .good))) (gradeAt s of Subjects) subject-grade
 
     pub entry-found : (r : ℕ) → r < length (P .roles) → InForce P r f (bestOf (gradeAt s of (OfRole r)) (entryCount s) .place)
     unfolding gradeAt subjectsOf
     entry-found r known =
         rw (entry-count L) (entry-picked P (L .good) f r _
-        (picked P (L .good) f (ofRole r) subjectPath noEntry (P .entries) subject-named (L .good .rooted r known) (gradeAt s of (OfRole r))
+        (picked P (L .good) f (ofRole r) subjectPath noEntry (P .entries) (role-rooted P (L .good) r known) (gradeAt s of (OfRole r))
         (λ e l. rw (entry-role L e l, subject-grade e l))))
 
     module _ (e : ℕ) (known : e < length (P .entries)) where
@@ -79,7 +67,7 @@ module _ {P : Policy} {rest s : List ℕ} (L : Loaded P rest s) (f : List ℕ) w
       unfolding gradeAt objectsOf
       object-found =
           rw (object-count L e known) (object-picked P (L .good) f e known _
-          (picked P (L .good) f always objectPath noObject objects named (rw (only-all objects) (good-entry P (L .good) e known .rooted)) (gradeAt s of (Objects e))
+          (picked P (L .good) f always objectPath noObject objects (rw (only-all objects) (entry-rooted P (L .good) (entryAt P e) (good-entry P (L .good) e known))) (gradeAt s of (Objects e))
           (λ i l. rw (object-path L e known i noObject l) (graded _ (named i l)))))
         where
           objects : List Object

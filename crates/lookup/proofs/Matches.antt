@@ -1,6 +1,6 @@
 -- The best places are the model's: the subject that a file stands for, the entry in force, its object.
 -- Assumes nothing.
-use mathlib.Core.Path.{_≡_, sym, ap, _∙_}
+use mathlib.Core.Path.{_≡_, refl, sym, ap, _∙_}
 use mathlib.Core.Bool.{So}
 use mathlib.Core.List.{List, map}
 use Prim.Native.Nat.{ℕ, _<_}
@@ -29,6 +29,19 @@ once key d e xs distinct i j l m same =
 
 pub good-entry : (P : Policy) → Good P → (e : ℕ) → e < length (P .entries) → GoodEntry P (entryAt P e)
 good-entry P good e l = all-at (GoodEntry P) (P .entries) noEntry (good .entries) e l
+
+-- The objects of an entry have different paths, so that the modes at a place are those of its path.
+module _ (P : Policy) (good : Good P) (e : ℕ) (known : e < length (P .entries)) where
+  distinct : Distinct (map objectPath (entryAt P e .objects))
+  distinct = unfold objectsOf in good-entry P good e known .distinct
+
+  pub modes-at : (i : ℕ) → i < length (entryAt P e .objects) → getD (entryAt P e .objects) i noObject .modes ≡ modesOf (entryAt P e) (getD (entryAt P e .objects) i noObject .path)
+  unfolding modesOf
+  modes-at i l = ap (λ (o : Object). o .modes) (sym (find-at (isObject (getD (entryAt P e .objects) i noObject .path)) noObject (entryAt P e .objects) i (record {
+    inside = l;
+    passes = eqb-of {m = getD (entryAt P e .objects) i noObject .path} refl;
+    none-before = λ j k t. omega (arith, once objectPath noObject none (entryAt P e .objects) distinct j i (omega arith) l (eqb-to _ _ t));
+  })))
 
 module _ (P : Policy) (good : Good P) (f : List ℕ) where
   pub subject-picked : (i : ℕ) → Picked P f always subjectPath noEntry (P .entries) i → entryAt P i .subject ≡ subjectOf P f
@@ -65,9 +78,6 @@ module _ (P : Policy) (good : Good P) (f : List ℕ) where
     abbrev object : ℕ
     object = objectIn P (entryAt P e) f
 
-    distinct : Distinct (map objectPath objects)
-    distinct = unfold objectsOf in good-entry P good e known .distinct
-
     pub object-picked : (i : ℕ) → Picked P f always objectPath noObject objects i → Placed P e f i
     unfolding objectIn objectsOf
     object-picked i p = record {
@@ -76,7 +86,7 @@ module _ (P : Policy) (good : Good P) (f : List ℕ) where
       first = place-at (eqb object) none 0 paths i (record {
         inside = within;
         passes = eqb-of (sym here);
-        none-before = λ j l t. omega (arith, distinct-at paths none distinct j i (omega (arith, within)) within (sym (eqb-to object _ t) ∙ sym here));
+        none-before = λ j l t. omega (arith, distinct-at paths none (distinct P good e known) j i (omega (arith, within)) within (sym (eqb-to object _ t) ∙ sym here));
       }) ∙ zero-add i;
     }
       where
@@ -94,9 +104,4 @@ module _ (P : Policy) (good : Good P) (f : List ℕ) where
       placed-path = sym (map-at objectPath objects i noObject none (placed .inside)) ∙ unfold objectsOf in placed .is
 
       pub placed-modes : getD objects i noObject .modes ≡ modesOf (entryAt P e) object
-      unfolding modesOf
-      placed-modes = ap (λ (o : Object). o .modes) (sym (find-at (isObject object) noObject objects i (record {
-        inside = placed .inside;
-        passes = eqb-of placed-path;
-        none-before = λ j l t. omega (arith, once objectPath noObject none objects distinct j i (omega (arith, placed .inside)) (placed .inside) (eqb-to _ object t ∙ sym placed-path));
-      })))
+      placed-modes = modes-at P good e known i (placed .inside) ∙ ap (modesOf (entryAt P e)) placed-path

@@ -6,10 +6,10 @@ use mathlib.Core.List.{List, map}
 use Prim.Native.Nat.{ℕ, _<_}
 use native.Mathlib.Omega.{arith}
 use lib.ListN.{length, getD}
-use Rattle.gran.specs.Lists.{none, any, only, place, member}
+use Rattle.gran.specs.Lists.{none, only, place, member}
 use Rattle.gran.specs.Policy.{Policy}
 use Rattle.gran.specs.Match.{closest, MostSpecific}
-use Rattle.gran.specs.Good.{Good, isRoot}
+use Rattle.gran.specs.Good.{Good}
 use Rattle.gran.proofs.Match.{Rooted, closest-most}
 use Rattle.gran.proofs.Policies.{table}
 use Rattle.lookup.specs.Best.{bestOf}
@@ -24,14 +24,10 @@ pub record Picked (P : Policy) (f : List ℕ) {A : Type 0} (test : A → Bool) (
   pub is : closest (P .paths) f none (map path (only test xs)) ≡ path (getD xs i d)
 
 module _ (P : Policy) (good : Good P) (f : List ℕ) {A : Type 0} (test : A → Bool) (path : A → ℕ) (d : A) (xs : List A)
-    (named : (j : ℕ) → j < length xs → path (getD xs j d) < length (P .paths)) (root : So (any (isRoot P) (map path (only test xs))))
-    (a : ℕ → ℕ) (grades : (j : ℕ) → j < length xs → a j ≡ cond (test (getD xs j d)) (gradeOf P f (path (getD xs j d))) 0)
+    (rooted : Rooted (P .paths) (map path (only test xs))) (a : ℕ → ℕ) (grades : (j : ℕ) → j < length xs → a j ≡ cond (test (getD xs j d)) (gradeOf P f (path (getD xs j d))) 0)
   where
     abbrev cs : List ℕ
     cs = map path (only test xs)
-
-    rooted : Rooted (P .paths) cs
-    rooted = record { named = λ c m. let r = listed-place test path d xs c m in rw (r .3) (named (r .0) (r .1)); root = root }
 
     -- what counts has its grade
     graded : (c : ℕ) → So (member c cs) → (j : ℕ) × (j < length xs) × (a j ≡ gradeOf P f c)

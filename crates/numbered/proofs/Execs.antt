@@ -16,16 +16,17 @@ use Rattle.gran.specs.Reach.{Question}
 use Rattle.gran.specs.declared.State.{State}
 use Rattle.store.specs.Held.{Loaded}
 use Rattle.lookup.specs.Lookup.{entryAt}
+use Rattle.lookup.proofs.Matches.{good-entry}
 use Rattle.tables.specs.Tables.{Tabled, cell, standCell, objectCell}
 use Rattle.runs.specs.Steps.{choices, isOther, executable, executables, usersAfter, groupsAfter, subjectsAfter, execsTo, execsAs, execsOf, execs}
-use Rattle.runs.proofs.Lists.{at-mem, only-of}
+use Rattle.gran.proofs.Members.{at-mem, only-of}
 use Rattle.numbered.specs.Number.{Inside, sizesOf, placesOf, stateNumber}
 use Rattle.numbered.specs.Candidates.{inImage, subjectStep, bySubject, otherGroup, byGroup, otherUser, byUser, objectStep, objectSteps, labelOf, stepOf}
 use Rattle.numbered.proofs.Places.{place-at, same-place, same-at, place-getD}
 use Rattle.numbered.proofs.Members.{choices-distinct, subjects-distinct, subjectOf-choice}
 use Rattle.numbered.proofs.Numbers.{user-at, group-at}
 use Rattle.numbered.proofs.Loops.{loop-is, row-is, offered-is, after-is}
-use Rattle.numbered.proofs.Objects.{objects-length, entry-good, object-named, count-is, path-is, modes-is}
+use Rattle.numbered.proofs.Objects.{objects-length, object-named, count-is, path-is, modes-is}
 use Rattle.numbered.proofs.Sets.{user-digit, group-digit, subject-digit}
 
 -- A path of S, by its place, is a subject.
@@ -40,7 +41,7 @@ module _ (P : Policy) (good : Good P) (q : Question) (t : List ℕ) (tabled : Ta
     same-object : eqb (cell t (objectCell k e)) i ≡ eqb (objectIn P (entryAt P e) (pathAt (P .paths) (getD (pathsOfS P) k none))) (getD (objectsOf (entryAt P e)) i none)
     same-object =
         let placed = tabled .object k e l known in
-        rw (← (placed .is)) (same-place (objectsOf (entryAt P e)) (entry-good P good e known .distinct) _ i (omega (arith, objects-length P e, placed .inside)) h)
+        rw (← (placed .is)) (same-place (objectsOf (entryAt P e)) (good-entry P good e known .distinct) _ i (omega (arith, objects-length P e, placed .inside)) h)
 
     same-subject : (c : ℕ) → c < length (P .paths) → eqb (cell t (standCell c)) k ≡ eqb (subjectOf P (pathAt (P .paths) c)) (getD (pathsOfS P) k none)
     same-subject c named =
@@ -66,7 +67,7 @@ module _ (P : Policy) (good : Good P) (q : Question) (t : List ℕ) (tabled : Ta
 
       label-is : (u g s : ℕ) → labelOf P α (exec object u g s) ≡ i
       unfolding labelOf
-      label-is u g s = rw (← is-entry) (place-getD (objectsOf (entryAt P e)) (entry-good P good e known .distinct) i h)
+      label-is u g s = rw (← is-entry) (place-getD (objectsOf (entryAt P e)) (good-entry P good e known .distinct) i h)
 
       bySubject-is : (u g : ℕ) → bySubject t (sizesOf P) (placesOf P (become u g)) e i object ≡ map (stepOf P α) (execsTo P (entryAt P e) object u g)
       unfolding bySubject subjectStep execsTo subjectsAfter sizesOf stepOf stateNumber

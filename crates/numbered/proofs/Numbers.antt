@@ -19,11 +19,10 @@ use Rattle.gran.specs.Abstract.{Act, setSpecial, setUser, setGroup, exec, abstr
 use Rattle.gran.specs.declared.State.{State}
 use Rattle.gran.proofs.Policies.{inForce-known}
 use Rattle.runs.specs.Steps.{choices}
-use Rattle.runs.proofs.Lists.{at-mem, has-member}
 use Rattle.numbered.specs.Number.{Among, Inside, sizesOf, digitsOf, placesOf, stateWith, stateNumber, stateNumbered}
-use Rattle.numbered.proofs.Radix.{numberOf-lt, digits-number, number-digits, digits-among}
-use Rattle.numbered.proofs.Places.{At, place-at, place-getD}
-use Rattle.numbered.proofs.Members.{choice-known, none-choice, roleOf-choice, reaches-choice, take-choice, choices-distinct, subjects-distinct, path-choice, subjectOf-choice, states-are, sized}
+use Rattle.numbered.proofs.Radix.{numberOf-lt, digits-number}
+use Rattle.numbered.proofs.Places.{At, place-at}
+use Rattle.numbered.proofs.Members.{choice-known, none-choice, roleOf-choice, reaches-choice, take-choice, path-choice, subjectOf-choice, states-are}
 
 module _ (P : Policy) where
   module _ (α : State) (inside : Inside P α) where
@@ -71,32 +70,6 @@ module _ (P : Policy) where
     unfolding role
     role-known α inside = inForce-known P good (α .special) (α .user) (α .group)
         (choice-known P SPECIAL (α .special) (inside .special)) (choice-known P USER (α .user) (inside .user)) (choice-known P GROUP (α .group) (inside .group))
-
-    module _ (n : ℕ) (h : n < statesOf P) where
-      numbered-among : Among (sizesOf P) (digitsOf (sizesOf P) n)
-      numbered-among = digits-among (sized P good) n (rw (states-are P good) h)
-
-      pub numbered-inside : Inside P (stateNumbered P n)
-      unfolding stateNumbered stateWith sizesOf
-      numbered-inside = record {
-        special = has-member (choices P SPECIAL) (at-mem none (choices P SPECIAL) _ (numbered-among .special));
-        user = has-member (choices P USER) (at-mem none (choices P USER) _ (numbered-among .user));
-        group = has-member (choices P GROUP) (at-mem none (choices P GROUP) _ (numbered-among .group));
-        subject = has-member (pathsOfS P) (at-mem none (pathsOfS P) _ (numbered-among .subject));
-      }
-
-      places-numbered : placesOf P (stateNumbered P n) ≡ digitsOf (sizesOf P) n
-      unfolding placesOf stateNumbered stateWith sizesOf
-      places-numbered = rw (
-        place-getD (choices P SPECIAL) (choices-distinct P good SPECIAL) _ (numbered-among .special),
-        place-getD (choices P USER) (choices-distinct P good USER) _ (numbered-among .user),
-        place-getD (choices P GROUP) (choices-distinct P good GROUP) _ (numbered-among .group),
-        place-getD (pathsOfS P) (subjects-distinct P good) _ (numbered-among .subject),
-      ) refl
-
-      pub number-numbered : stateNumber P (stateNumbered P n) ≡ n
-      unfolding stateNumber
-      number-numbered = rw places-numbered (number-digits (sizesOf P) n)
 
     -- ---- steps stay inside
 

@@ -1,17 +1,17 @@
 -- Places of numbers in a list, each once.
 -- Assumes nothing.
 use mathlib.Core.Path.{_≡_, refl, sym, ap, subst}
-use mathlib.Core.Logic.{_⊎_, inl, inr}
 use mathlib.Core.Bool.{Bool, true, false, cond, _||_, So, false≢true}
 use mathlib.Core.List.{List, [], _∷_}
-use Prim.Native.Nat.{ℕ, suc, _+_, _≤_, _<_}
+use Prim.Native.Nat.{ℕ, suc, _+_, _<_}
 use native.Mathlib.Omega.{arith}
 use lib.Dec.{eqb}
 use lib.ListN.{length, getD}
-use Rattle.paths.proofs.Bools.{either, to-false, iff-≡, eqb-of, eqb-to}
-use Rattle.gran.specs.Lists.{none, All, Distinct, only, place, places, member}
+use Rattle.paths.proofs.Bools.{iff-≡, eqb-of, eqb-to}
+use Rattle.gran.specs.Lists.{none, Distinct, place, member}
 use Rattle.gran.proofs.Lists.{distinct-at}
-use Rattle.runs.proofs.Lists.{all-of, all-mem, at-mem, has-member, Rising}
+use Rattle.gran.proofs.Members.{all-of, all-mem, at-mem, has-member}
+use Rattle.runs.proofs.Lists.{Rising}
 
 -- x stands at place j.
 pub record At (xs : List ℕ) (x j : ℕ) : Type 0 where
@@ -50,69 +50,3 @@ module _ (xs : List ℕ) (distinct : Distinct xs) where
 pub rising-distinct : (R : ℕ → ℕ → Type 0) → ((x : ℕ) → R x x → ⊥) → (xs : List ℕ) → Rising R xs → Distinct xs
 rising-distinct R never [] h = tt
 rising-distinct R never (x ∷ xs) h = (all-of _ xs (λ y m e. never x (subst (R x) (sym e) (all-mem (R x) xs (h .0) m))), rising-distinct R never xs (h .1))
-
-module _ {A : Type 0} (test : A → Bool) where
-  pub places-length : (i : ℕ) (xs : List A) → length (places test i xs) ≡ length (only test xs)
-  places-length i [] = refl
-  places-length i (x ∷ xs) = go (test x) (places-length (suc i) xs)
-    where
-      go : (b : Bool) → length (places test (suc i) xs) ≡ length (only test xs) → length (cond b (i ∷ places test (suc i) xs) (places test (suc i) xs)) ≡ length (cond b (x ∷ only test xs) (only test xs))
-      go true e = ap suc e
-      go false e = e
-
-  pub places-lt : (i : ℕ) (xs : List A) (j : ℕ) → So (member j (places test i xs)) → j < i + length xs
-  places-lt i [] j m = absurd (false≢true m)
-  places-lt i (x ∷ xs) j m = go (test x) m (places-lt (suc i) xs j)
-    where
-      go : (b : Bool) → So (member j (cond b (i ∷ places test (suc i) xs) (places test (suc i) xs))) → (So (member j (places test (suc i) xs)) → j < suc i + length xs) → j < i + length (x ∷ xs)
-      go true n ih = cases (either (eqb j i) _ n)
-        where
-          cases : So (eqb j i) ⊎ So (member j (places test (suc i) xs)) → j < i + length (x ∷ xs)
-          cases (inl e) = let same = eqb-to j i e in omega arith
-          cases (inr t) = omega (arith, ih t)
-      go false n ih = omega (arith, ih n)
-
--- ---- of distinct numbers no more pass than a list has members
-
-module _ (a b : ℕ → Bool) where
-  -- Either of two tests.
-  abbrev eitherOf : ℕ → Bool
-  eitherOf n = a n || b n
-
-  either-few : (xs : List ℕ) → length (only eitherOf xs) ≤ length (only a xs) + length (only b xs)
-  either-few [] = omega arith
-  either-few (x ∷ xs) = go (a x) (b x) (either-few xs)
-    where
-      go : (p q : Bool) → length (only eitherOf xs) ≤ length (only a xs) + length (only b xs)
-          → length (cond (p || q) (x ∷ only eitherOf xs) (only eitherOf xs)) ≤ length (cond p (x ∷ only a xs) (only a xs)) + length (cond q (x ∷ only b xs) (only b xs))
-      go true true ih = omega arith
-      go true false ih = omega arith
-      go false true ih = omega arith
-      go false false ih = ih
-
--- n is y, and n is one of the list.
-abbrev isIt : ℕ → ℕ → Bool
-isIt y n = eqb n y
-
-abbrev pub amongst : List ℕ → ℕ → Bool
-amongst ys n = member n ys
-
-only-none : (y : ℕ) (xs : List ℕ) → All (λ (x : ℕ). y ≡ x → ⊥) xs → only (isIt y) xs ≡ []
-only-none y [] h = refl
-only-none y (x ∷ xs) h = rw (to-false (eqb x y) (λ t. h .0 (sym (eqb-to x y t)))) (only-none y xs (h .1))
-
-only-one : (y : ℕ) (xs : List ℕ) → Distinct xs → length (only (isIt y) xs) ≤ 1
-only-one y [] d = omega arith
-only-one y (x ∷ xs) d = go (eqb x y) refl (only-one y xs (d .1))
-  where
-    go : (b : Bool) → eqb x y ≡ b → length (only (isIt y) xs) ≤ 1 → length (cond b (x ∷ only (isIt y) xs) (only (isIt y) xs)) ≤ 1
-    go true e ih = rw (only-none y xs (subst (λ (n : ℕ). All (λ (m : ℕ). n ≡ m → ⊥) xs) (eqb-to x y e) (d .0))) (omega arith)
-    go false e ih = ih
-
-pub amongst-few : (ys xs : List ℕ) → Distinct xs → length (only (amongst ys) xs) ≤ length ys
-amongst-few [] xs d = none-pass xs
-  where
-    none-pass : (xs : List ℕ) → length (only (amongst []) xs) ≤ 0
-    none-pass [] = omega arith
-    none-pass (x ∷ xs) = none-pass xs
-amongst-few (y ∷ ys) xs d = omega (arith, either-few (isIt y) (amongst ys) xs, only-one y xs d, amongst-few ys xs d)

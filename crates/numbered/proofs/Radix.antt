@@ -3,9 +3,9 @@
 use mathlib.Core.Path.{_≡_, refl}
 use Prim.Native.Nat.{ℕ, _+_, _*_, _/_, _≤_, _<_}
 use native.Mathlib.Omega.{arith}
-use native.Mathlib.Nat.{mul-le-mul-left, mul-one, mod-lt, div-add-mod', div-lt-iff-lt-mul}
+use native.Mathlib.Nat.{mul-le-mul-left, mul-one, mod-lt, div-lt-iff-lt-mul}
 use lib.Arith.{digits-lt, digits-div, digits-mod}
-use Rattle.numbered.specs.Number.{allStates, Sized, Among, numberOf, digitsOf}
+use Rattle.numbered.specs.Number.{allStates, Sized, Among, Celled, numberOf, digitsOf}
 use Rattle.numbered.specs.declared.Sizes.{Sizes}
 use Rattle.numbered.specs.declared.Digits.{Digits}
 
@@ -42,10 +42,6 @@ module _ {z : Sizes} {d : Digits} (among : Among z d) where
       let da : b / z .groups ≡ a = digits-div a (among .group) in
       rw (db, da, digits-div (d .special) (among .user), digits-mod (d .special) (among .user), digits-mod a (among .group), digits-mod b (among .subject)) refl
 
-pub number-digits : (z : Sizes) (n : ℕ) → numberOf z (digitsOf z n) ≡ n
-unfolding numberOf digitsOf
-number-digits z n = rw (div-add-mod' (n / z .subjects / z .groups) (z .users), div-add-mod' (n / z .subjects) (z .groups), div-add-mod' n (z .subjects)) refl
-
 pub digits-among : {z : Sizes} → Sized z → (n : ℕ) → n < allStates z → Among z (digitsOf z n)
 unfolding digitsOf allStates
 digits-among {z} sized n h = record {
@@ -54,3 +50,20 @@ digits-among {z} sized n h = record {
   group = mod-lt (n / z .subjects) (sized .groups .0);
   subject = mod-lt n (sized .subjects .0);
 }
+
+-- The tables have cells for digits below their sizes, and for the digits of any number.
+module _ {z : Sizes} (sized : Sized z) where
+  pub among-celled : {d : Digits} → Among z d → Celled d
+  among-celled among = record {
+    user = omega (arith, among .user, sized .users .1);
+    group = omega (arith, among .group, sized .groups .1);
+    subject = omega (arith, among .subject, sized .subjects .1);
+  }
+
+  pub digits-celled : (n : ℕ) → Celled (digitsOf z n)
+  unfolding digitsOf
+  digits-celled n = record {
+    user = omega (arith, mod-lt (n / z .subjects / z .groups) (sized .users .0), sized .users .1);
+    group = omega (arith, mod-lt (n / z .subjects) (sized .groups .0), sized .groups .1);
+    subject = omega (arith, mod-lt n (sized .subjects .0), sized .subjects .1);
+  }

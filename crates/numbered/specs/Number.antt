@@ -40,6 +40,12 @@ pub record Among (z : Sizes) (d : Digits) : Type 0 where
   pub group : d .group < z .groups
   pub subject : d .subject < z .subjects
 
+-- The tables have cells for the digits.
+pub record Celled (d : Digits) : Type 0 where
+  pub user : d .user < 16
+  pub group : d .group < 8
+  pub subject : d .subject < 64
+
 -- The number of four digits, and the digits of a number.
 unfoldable pub numberOf : Sizes → Digits → ℕ
 numberOf z d = ((d .special * z .users + d .user) * z .groups + d .group) * z .subjects + d .subject

@@ -3,6 +3,13 @@
 ghost use mathlib.Core.Path.{_≡_};
 ghost use Rattle.numbered.specs.Number.{Sized, Among, numberOf, digitsOf};
 
+// How steps are labelled that execute nothing: 81, 82 and 83. Below that a label is the place of the object.
+pub const SPECIAL_LABEL: u16 = 96;
+
+pub const USER_LABEL: u16 = 97;
+
+pub const GROUP_LABEL: u16 = 98;
+
 // How many choices each part of a state has.
 pub struct Sizes {
     pub specials: usize,

@@ -8,7 +8,7 @@ use Prim.Native.Nat.{ℕ, _≤_}
 use lib.Dec.{eqb, leb}
 use lib.ListN.{length}
 use borrow.Author.Tests.{eqb-false, ne-eqb, leb-true}
-use Rattle.paths.specs.Path.{slash, spelled, isPath, allPlain, goodPath, lead, ended, names, same, first, under, Under, begins}
+use Rattle.paths.specs.Path.{slash, spelled, isPath, goodPath, lead, ended, names, same, first, under, Under, begins}
 use Rattle.paths.proofs.Bools.{decide, both, left, right, eqb-of, eqb-to}
 
 pub same-refl : (ys : List ℕ) → So (same ys ys)
@@ -192,7 +192,3 @@ module _ (policy : Bool) (p : List ℕ) (good : So (goodPath policy p)) where
   pub good-isPath : So (isPath p)
   unfolding goodPath
   good-isPath = left (isPath p) _ (right (leb (length p) 64) _ good)
-
-  pub good-plain : So (allPlain policy p)
-  unfolding goodPath
-  good-plain = right (isPath p) _ (right (leb (length p) 64) _ good)

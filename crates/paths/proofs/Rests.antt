@@ -1,11 +1,12 @@
 -- What is left of a path from a byte on: the laws of the loops.
 -- Assumes nothing.
-use Prim.Native.Nat.{ℕ, suc, _+_, _≤_, _<_}
-use mathlib.Core.Path.{_≡_, refl, sym}
+use Prim.Native.Nat.{ℕ, zero, suc, _+_, _-_, _≤_, _<_}
+use mathlib.Core.Path.{_≡_, refl, sym, ap, _∙_}
 use mathlib.Core.Bool.{Bool, true, false, not, _&&_, and-true, and-false, and-assoc}
 use mathlib.Core.List.{List, [], _∷_}
 use native.Mathlib.Numerals.{add-one}
 use native.Mathlib.Omega.{arith}
+use native.Mathlib.Decide.{ℕ-discrete, decLt}
 use lib.Dec.{leb}
 use lib.ListN.{length, getD, drop, drop-of-length-le}
 use lib.Seq.{drop-cons}
@@ -95,3 +96,40 @@ module _ (s : List ℕ) (i : ℕ) where
 
   pub none-end : length s ≤ i → first (ended (drop i s)) [] ≡ true
   none-end h = rw drop-of-length-le
+
+-- ---- a slash at the end
+
+-- A slash at a later place is a slash.
+some-slash : (s : List ℕ) (last k i : ℕ) → i + k ≡ last → last < length s → getD s last 0 ≡ slash → first (ended (drop i s)) [] ≡ false
+some-slash s last zero i e h at = none-slash s i (omega arith) (rw (← at) (ap (λ (j : ℕ). getD s j 0) (omega (arith, e))))
+some-slash s last (suc k) i e h at = go (ℕ-discrete (getD s i 0) slash) (some-slash s last k (i + 1) (omega (arith, e)) h at)
+  where
+    go : Dec (getD s i 0 ≡ slash) → first (ended (drop (i + 1) s)) [] ≡ false → first (ended (drop i s)) [] ≡ false
+    go (yes p) rest = none-slash s i (omega (arith, e)) p
+    go (no n) rest = none-next s i (omega (arith, e)) n ∙ rest
+
+-- A slash of q at or behind a place where p has another byte, or none.
+module _ (p q : List ℕ) (m last : ℕ) (within : last < length q) (at : getD q last 0 ≡ slash) (behind : m ≤ last) (apart : m < length p → getD p m 0 ≡ getD q m 0 → ⊥) where
+  none-from : (i : ℕ) → i ≤ last → first (ended (drop i q)) [] ≡ false
+  none-from i h = some-slash q last (last - i) i (omega arith) within at
+
+  parted : (k i : ℕ) → i + k ≡ m → underFrom i p q ≡ false
+  parted zero i e = go (decLt i (length p))
+    where
+      same : i ≡ m
+      same = omega (arith, e)
+
+      go : Dec (i < length p) → underFrom i p q ≡ false
+      go (no h) = under-short p q i (omega arith) ∙ none-from i (omega arith)
+      go (yes h) =
+          under-apart p q i h (omega arith) (λ d. apart (omega arith) (ap (λ (j : ℕ). getD p j 0) (sym same) ∙ d ∙ ap (λ (j : ℕ). getD q j 0) same))
+          ∙ none-from i (omega arith)
+  parted (suc k) i e = go (decLt i (length p)) (ℕ-discrete (getD p i 0) (getD q i 0)) (parted k (i + 1) (omega (arith, e)))
+    where
+      go : Dec (i < length p) → Dec (getD p i 0 ≡ getD q i 0) → underFrom (i + 1) p q ≡ false → underFrom i p q ≡ false
+      go (no h) d rest = under-short p q i (omega arith) ∙ none-from i (omega (arith, e))
+      go (yes h) (no d) rest = under-apart p q i h (omega (arith, e)) d ∙ none-from i (omega (arith, e))
+      go (yes h) (yes d) rest = under-next p q i h (omega (arith, e)) d ∙ rest
+
+  pub under-parted : 1 ≤ m → under p q ≡ false
+  under-parted h = under-first p q ∙ parted (m - 1) 1 (omega arith)

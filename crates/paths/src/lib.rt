@@ -1,5 +1,6 @@
 // Paths as bytes: which are good, and when one is under another. Rests on nothing.
 // What a reader must believe stands in specs/Path.antt: `goodPath`, `names` and `under`.
+ghost use mathlib.Core.Bool.{true, false};
 ghost use mathlib.Core.List.{[]};
 ghost use mathlib.Core.Path.{_≡_};
 ghost use lib.ListN.{drop};
@@ -69,8 +70,33 @@ fn no_slash(s: &[u8], from: usize) -> bool
     true
 }
 
+// Whether a slash ends `q`, and `p` ends before it or has another byte than `q` up to it: then `p` is not under `q`.
+// Paths of one policy share how they begin, so they are compared from the end of `q` back.
+fn parts(p: &[u8], q: &[u8]) -> bool
+    ensures { λ r. ⌜ (r ≡ true → under (now (p .entry)) (now (q .entry)) ≡ false) ⌝ }
+{
+    let n = q.len();
+    if n < 2 {
+        return false;
+    }
+    if q[n - 1] != SLASH {
+        return false;
+    }
+    if p.len() < n {
+        return true;
+    }
+    let mut i = n;
+    while 1 < i {
+        i -= 1;
+        if p[i] != q[i] {
+            return true;
+        }
+    }
+    false
+}
+
 // Whether `p` is under `q`: from where their bytes part on, no name of `q` ends. The first byte is in no name.
-pub fn under(p: &[u8], q: &[u8]) -> bool
+fn compared(p: &[u8], q: &[u8]) -> bool
     ensures { λ r. ⌜ r ≡ under (now (p .entry)) (now (q .entry)) ⌝ }
 {
     let mut i = 1;
@@ -84,4 +110,14 @@ pub fn under(p: &[u8], q: &[u8]) -> bool
         i += 1;
     }
     true
+}
+
+// Whether `p` is under `q`.
+pub fn under(p: &[u8], q: &[u8]) -> bool
+    ensures { λ r. ⌜ r ≡ under (now (p .entry)) (now (q .entry)) ⌝ }
+{
+    if parts(p, q) {
+        return false;
+    }
+    compared(p, q)
 }

@@ -10,7 +10,7 @@ use native.Mathlib.Decide.{ℕ-discrete}
 use borrow.Author.Tests.{ltb-false, not-false}
 use lib.Dec.{eqb, ltb}
 use lib.ListN.{length, length-append}
-use Rattle.paths.proofs.Bools.{decide}
+use Rattle.paths.proofs.Bools.{decide, neither}
 use Rattle.lines.specs.Line.{linesOf}
 use Rattle.gran.specs.Lists.{any, only, sum, numbers, All}
 use Rattle.gran.specs.Policy.{Policy, Move, Object, Entry, DEFAULT}
@@ -19,7 +19,7 @@ use Rattle.gran.specs.Good.{Good, GoodMove, GoodObject, GoodEntry, statesOf}
 use Rattle.store.specs.Layout.{allObjects}
 use Rattle.policy.specs.Load.{start, Progress, going, stopped, run, lacksEntry, lacksObject, unrooted, Reading, refused, accepted, finish, reading, LoadedAs}
 use Rattle.policy.specs.Sound.{SoundMove, SoundObject, SoundEntry, SoundPolicy}
-use Rattle.policy.proofs.More.{neither, all-imply, all-both}
+use Rattle.policy.proofs.More.{all-imply, all-both}
 use Rattle.policy.proofs.Loads.{SoundProgress, sound-start, sound-run}
 
 -- ---- the tests at the end

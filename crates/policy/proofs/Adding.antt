@@ -7,32 +7,26 @@ use lib.ListN.{length}
 use Rattle.lines.specs.declared.Frame.{Frame}
 use Rattle.lines.specs.Line.{Bytes}
 use Rattle.gran.specs.Policy.{Entry}
+use Rattle.gran.proofs.Lists.{length-more}
+use Rattle.store.proofs.Growing.{last-of, changed-length}
 use Rattle.store.specs.Grow.{withEntries, onLast, addObject, addUid, addGid}
 use Rattle.policy.specs.Frames.{typeOf, roleFrom, pathFrom, moveFrom, objectFrom, idFrom, inRange, isSecond, isFull}
 use Rattle.policy.specs.Load.{Load, add, after}
 use Rattle.policy.specs.Sound.{SoundEntries, Sound}
-use Rattle.policy.proofs.More.{length-more}
 use Rattle.policy.proofs.Types.{Other, by-type, add-other}
 use Rattle.policy.proofs.Roles.{good-role, sound-role}
-use Rattle.policy.proofs.Entries.{last-onLast, length-onLast, last-more, sound-no-moves, sound-no-entries, sound-path, sound-move, sound-entry, sound-object, sound-uid, sound-gid}
-use Rattle.policy.proofs.Refusals.{Passed, Order, order, number4-range}
+use Rattle.policy.proofs.Entries.{last-onLast, sound-no-moves, sound-no-entries, sound-path, sound-move, sound-entry, sound-object, sound-uid, sound-gid}
+use Rattle.policy.proofs.Refusals.{Passed, next, last-below, number4-range}
 
 -- The types of a group.
 in-no-group : (t : ℕ) → 0x40 ≤ t → t ≤ 0x43 → Other t → ⊥
 in-no-group t low high o = omega (arith, o .not-40, o .not-41, o .not-42, o .not-43)
 
 module _ (s : Load) (f : Frame) (sound : Sound s) (small : Bytes (f .bytes)) (p : Passed s f) where
-  next : Order (s .last) (typeOf f)
-  next = order (s .last) (typeOf f) (p .follows)
-
-  -- The last type is not above a type that begins no group and does not end the text.
-  before : (t : ℕ) → typeOf f ≡ t → (t ≡ 0x40 → ⊥) → (t ≡ 0x7f → ⊥) → s .last ≤ t
-  before t e a b = rw e at (next .below (λ x. a (sym e ∙ x)) (λ x. b (sym e ∙ x)))
-
   sound-10 : typeOf f ≡ 0x10 → Sound (after s f)
   unfolding after add inRange isSecond isFull
   sound-10 e =
-      let l : s .last ≤ 0x10 = before 0x10 e (λ x. omega arith) (λ x. omega arith) in
+      let l : s .last ≤ 0x10 = last-below s f p 0x10 e (λ x. omega arith) (λ x. omega arith) in
       let good = good-role (roleFrom f) (number4-range f small 2) (rw e at (p .ranged)) in
       rw e
       (record {
@@ -51,7 +45,7 @@ module _ (s : Load) (f : Frame) (sound : Sound s) (small : Bytes (f .bytes)) (p 
   sound-20 : typeOf f ≡ 0x20 → Sound (after s f)
   unfolding after add inRange isSecond isFull
   sound-20 e =
-      let l : s .last ≤ 0x20 = before 0x20 e (λ x. omega arith) (λ x. omega arith) in
+      let l : s .last ≤ 0x20 = last-below s f p 0x20 e (λ x. omega arith) (λ x. omega arith) in
       rw e
       (record {
         policy = record {
@@ -69,7 +63,7 @@ module _ (s : Load) (f : Frame) (sound : Sound s) (small : Bytes (f .bytes)) (p 
   sound-30 : typeOf f ≡ 0x30 → Sound (after s f)
   unfolding after add inRange isSecond isFull
   sound-30 e =
-      let l : s .last ≤ 0x30 = before 0x30 e (λ x. omega arith) (λ x. omega arith) in
+      let l : s .last ≤ 0x30 = last-below s f p 0x30 e (λ x. omega arith) (λ x. omega arith) in
       rw e
       (record {
         policy = record {
@@ -98,7 +92,7 @@ module _ (s : Load) (f : Frame) (sound : Sound s) (small : Bytes (f .bytes)) (p 
         no-moves = λ x. absurd (omega arith);
         no-entries = λ x. absurd (omega arith);
         some-entry = λ x y. rw length-more (omega arith);
-        no-gids = λ x. rw last-more refl;
+        no-gids = λ x. rw last-of refl;
       })
 
   -- A frame of a group, for the last entry: its type, and what it makes of the entry.
@@ -107,14 +101,14 @@ module _ (s : Load) (f : Frame) (sound : Sound s) (small : Bytes (f .bytes)) (p 
         → SoundEntries (length (s .policy .roles)) (length (s .policy .paths)) (onLast g (s .policy .entries))
         → (t < 0x43 → (d : Entry) → g d .groups ≡ d .groups) → Sound (after s f)
     in-group d entries kept =
-        let from : 0x40 ≤ s .last = next .grouped (rw e low) (λ x. omega (arith, sym e ∙ x)) in
-        let to : s .last ≤ t = before t e (λ x. omega arith) (λ x. omega arith) in
+        let from : 0x40 ≤ s .last = next s f p .grouped (rw e low) (λ x. omega (arith, sym e ∙ x)) in
+        let to : s .last ≤ t = last-below s f p t e (λ x. omega arith) (λ x. omega arith) in
         rw d
         (record {
           policy = record { roles = sound .policy .roles; paths = sound .policy .paths; moves = sound .policy .moves; entries = entries };
           no-moves = λ x. absurd (omega arith);
           no-entries = λ x. absurd (omega arith);
-          some-entry = λ x y. rw length-onLast (sound .some-entry from (omega arith));
+          some-entry = λ x y. rw changed-length (sound .some-entry from (omega arith));
           no-gids = λ x. rw (last-onLast g (λ (e : Entry). e .groups) (kept x)) (sound .no-gids (omega arith));
         })
 
@@ -145,10 +139,10 @@ module _ (s : Load) (f : Frame) (sound : Sound s) (small : Bytes (f .bytes)) (p 
       rw (add-other (s .policy) f o)
       (record {
         policy = sound .policy;
-        no-moves = λ x. sound .no-moves (omega (arith, next .below (o .not-40) (λ y. omega arith)));
-        no-entries = λ x. sound .no-entries (omega (arith, next .below (o .not-40) (λ y. omega arith)));
+        no-moves = λ x. sound .no-moves (omega (arith, next s f p .below (o .not-40) (λ y. omega arith)));
+        no-entries = λ x. sound .no-entries (omega (arith, next s f p .below (o .not-40) (λ y. omega arith)));
         some-entry = λ x y. absurd (in-no-group (typeOf f) x y o);
-        no-gids = λ x. sound .no-gids (omega (arith, next .below (o .not-40) (λ y. omega arith)));
+        no-gids = λ x. sound .no-gids (omega (arith, next s f p .below (o .not-40) (λ y. omega arith)));
       })
 
   pub sound-after : Sound (after s f)

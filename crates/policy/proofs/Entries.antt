@@ -2,7 +2,7 @@
 -- Assumes nothing.
 use mathlib.Core.Path.{_≡_, refl, sym, ap}
 use mathlib.Core.Bool.{true, false, not, _&&_, So}
-use mathlib.Core.List.{List, [], _∷_, _++_, map}
+use mathlib.Core.List.{List, [], _∷_, _++_, map, append-nil}
 use Prim.Native.Nat.{ℕ, suc, _≤_, _<_}
 use native.Mathlib.Omega.{arith}
 use borrow.Author.Tests.{leb-true, leb-false, ltb-true, eqb-false, not-true}
@@ -17,12 +17,14 @@ use Rattle.gran.specs.Policy.{Policy, Role, Move, Object, Allowed, Entry, noId}
 use Rattle.gran.specs.Match.{isEntry, objectPath, objectsOf}
 use Rattle.gran.specs.Role.{isMove}
 use Rattle.gran.specs.Good.{GoodIds}
+use Rattle.gran.proofs.Lists.{length-more}
 use Rattle.store.specs.Layout.{allObjects}
 use Rattle.store.specs.Held.{lastEntry}
 use Rattle.store.specs.Grow.{onLast, listing, addObject, addUid, addGid}
+use Rattle.store.proofs.Growing.{objects-more, changed-length}
 use Rattle.policy.specs.Frames.{goodMove, goodEntry, goodObject, goodId, unlisted, byteAt, entryFrom}
 use Rattle.policy.specs.Sound.{SoundPaths, SoundMove, SoundMoves, SoundObject, SoundEntry, SoundEntries, SoundPolicy, entryKey}
-use Rattle.policy.proofs.More.{length-more, map-more, all-more, all-map, all-apart, distinct-more}
+use Rattle.policy.proofs.More.{map-more, all-more, all-map, all-apart, distinct-more}
 
 -- ---- the last entry
 
@@ -49,37 +51,20 @@ module _ (g : Entry → Entry) where
     last-onLast (e ∷ (d ∷ [])) = kept d
     last-onLast (e ∷ (d ∷ (c ∷ es))) = last-onLast (d ∷ (c ∷ es))
 
-  pub length-onLast : (es : List Entry) → length (onLast g es) ≡ length es
-  unfolding onLast
-  length-onLast [] = refl
-  length-onLast (e ∷ []) = refl
-  length-onLast (e ∷ (d ∷ es)) = ap suc (length-onLast (d ∷ es))
-
 longer : (xs ys zs : List Object) → length ys ≤ suc (length zs) → length (xs ++ ys) ≤ suc (length (xs ++ zs))
 longer xs ys zs h = simp length-append (omega arith)
 
-objects-more : (o : Object) (es : List Entry) → length (allObjects (onLast (addObject o) es)) ≤ suc (length (allObjects es))
+object-more : (o : Object) (es : List Entry) → length (allObjects (onLast (addObject o) es)) ≤ suc (length (allObjects es))
 unfolding allObjects onLast
-objects-more o [] = omega arith
-objects-more o (e ∷ []) = simp length-append (omega arith)
-objects-more o (e ∷ (d ∷ es)) = longer (e .objects) (allObjects (onLast (addObject o) (d ∷ es))) (allObjects (d ∷ es)) (objects-more o (d ∷ es))
+object-more o [] = omega arith
+object-more o (e ∷ []) = simp length-append (omega arith)
+object-more o (e ∷ (d ∷ es)) = longer (e .objects) (allObjects (onLast (addObject o) (d ∷ es))) (allObjects (d ∷ es)) (object-more o (d ∷ es))
 
 objects-same : (g : Entry → Entry) → ((e : Entry) → g e .objects ≡ e .objects) → (es : List Entry) → allObjects (onLast g es) ≡ allObjects es
 unfolding allObjects onLast
 objects-same g kept [] = refl
 objects-same g kept (e ∷ []) = rw (kept e)
 objects-same g kept (e ∷ (d ∷ es)) = ap (λ (os : List Object). e .objects ++ os) (objects-same g kept (d ∷ es))
-
-objects-empty : (es : List Entry) (e : Entry) → e .objects ≡ [] → allObjects (es ++ e ∷ []) ≡ allObjects es
-unfolding allObjects
-objects-empty [] e h = rw h
-objects-empty (d ∷ es) e h = ap (λ (os : List Object). d .objects ++ os) (objects-empty es e h)
-
-pub last-more : (es : List Entry) (e : Entry) → lastEntry (es ++ e ∷ []) ≡ e
-unfolding lastEntry
-last-more [] e = refl
-last-more (d ∷ []) e = refl
-last-more (d ∷ (c ∷ es)) e = last-more (c ∷ es) e
 
 -- ---- the parts of an entry
 
@@ -113,27 +98,16 @@ sound-addObject roles paths o e good new sound = record {
   distinct = rw map-more (distinct-more (map objectPath (e .objects)) (o .path) (sound .distinct) (all-apart (λ (m : ℕ). m) (o .path) (eqb (o .path)) (λ m d. eqb-of (sym d)) (map objectPath (e .objects)) new));
 }
 
--- A UID more, and a GID.
-sound-addUid : (roles paths n : ℕ) (e : Entry) → GoodIds (listing (e .users) n) → SoundEntry roles paths e → SoundEntry roles paths (addUid n e)
+-- Other allowed ids.
+sound-ids : (roles paths : ℕ) (e : Entry) {users groups : Allowed} → GoodIds users → GoodIds groups → SoundEntry roles paths e
+    → SoundEntry roles paths (record { role = e .role; subject = e .subject; caps = e .caps; users = users; groups = groups; objects = e .objects })
 unfolding objectsOf
-sound-addUid roles paths n e good sound = record {
+sound-ids roles paths e users groups sound = record {
   role = sound .role;
   subject = sound .subject;
   caps = sound .caps;
-  users = good;
-  groups = sound .groups;
-  objects = sound .objects;
-  distinct = sound .distinct;
-}
-
-sound-addGid : (roles paths n : ℕ) (e : Entry) → GoodIds (listing (e .groups) n) → SoundEntry roles paths e → SoundEntry roles paths (addGid n e)
-unfolding objectsOf
-sound-addGid roles paths n e good sound = record {
-  role = sound .role;
-  subject = sound .subject;
-  caps = sound .caps;
-  users = sound .users;
-  groups = good;
+  users = users;
+  groups = groups;
   objects = sound .objects;
   distinct = sound .distinct;
 }
@@ -185,7 +159,7 @@ module _ (P : Policy) (sound : SoundPolicy P) where
         (distinct-more (map entryKey (P .entries)) (byteAt f 1, byteAt f 2) (sound .entries .distinct)
         (all-map entryKey (λ (k : ℕ × ℕ). k ≡ (byteAt f 1, byteAt f 2) → ⊥) (P .entries) (all-apart entryKey (byteAt f 1, byteAt f 2) (isEntry (byteAt f 1) (byteAt f 2)) again (P .entries) new)));
     few = rw length-more (leb-false 64 (length (P .entries)) free);
-    few-objects = rw (objects-empty (P .entries) (entryFrom f) refl) (sound .entries .few-objects);
+    few-objects = rw (objects-more (P .entries) (entryFrom f), append-nil (allObjects (P .entries))) (sound .entries .few-objects);
   }
     where
       again : (e : Entry) → entryKey e ≡ (byteAt f 1, byteAt f 2) → So (isEntry (byteAt f 1) (byteAt f 2) e)
@@ -211,7 +185,7 @@ module _ (P : Policy) (sound : SoundPolicy P) where
     sound-last good few = record {
       good = all-onLast g (SoundEntry (length (P .roles)) (length (P .paths))) (P .entries) (sound .entries .good) good;
       distinct = rw (map-onLast g entryKey kept) (sound .entries .distinct);
-      few = rw length-onLast (sound .entries .few);
+      few = rw changed-length (sound .entries .few);
       few-objects = few;
     }
 
@@ -221,7 +195,7 @@ module _ (P : Policy) (sound : SoundPolicy P) where
   sound-object o good new free =
       sound-last (addObject o) (λ e. refl)
       (sound-addObject _ _ o (lastEntry (P .entries)) named new)
-      (omega (arith, objects-more o (P .entries), leb-false 512 (length (allObjects (P .entries))) free))
+      (omega (arith, object-more o (P .entries), leb-false 512 (length (allObjects (P .entries))) free))
     where
       named : SoundObject (length (P .paths)) o
       named = record { path = ltb-true _ _ (left _ _ good); modes = ltb-true _ _ (right (ltb (o .path) (length (P .paths))) _ good) }
@@ -235,12 +209,12 @@ module _ (P : Policy) (sound : SoundPolicy P) where
         → Entries (onLast (addUid n) (P .entries))
     sound-uid good new free =
         sound-last (addUid n) (λ e. refl)
-        (λ s. sound-addUid _ _ n (lastEntry (P .entries)) (good-listing (lastEntry (P .entries) .users) n range (s .users) good new free) s)
+        (λ s. sound-ids _ _ (lastEntry (P .entries)) (good-listing (lastEntry (P .entries) .users) n range (s .users) good new free) (s .groups) s)
         (few-same (addUid n) (λ e. refl))
 
     pub sound-gid : So (goodId (lastEntry (P .entries) .groups) n) → member n (lastEntry (P .entries) .groups .ids) ≡ false → leb 16 (length (lastEntry (P .entries) .groups .ids)) ≡ false
         → Entries (onLast (addGid n) (P .entries))
     sound-gid good new free =
         sound-last (addGid n) (λ e. refl)
-        (λ s. sound-addGid _ _ n (lastEntry (P .entries)) (good-listing (lastEntry (P .entries) .groups) n range (s .groups) good new free) s)
+        (λ s. sound-ids _ _ (lastEntry (P .entries)) (s .users) (good-listing (lastEntry (P .entries) .groups) n range (s .groups) good new free) s)
         (few-same (addGid n) (λ e. refl))

@@ -1,10 +1,9 @@
--- Every load is sound, and counts its lines.
+-- Every load is sound.
 -- Assumes nothing.
 use mathlib.Core.Path.{_≡_, refl}
 use mathlib.Core.List.{List, [], _∷_}
-use Prim.Native.Nat.{ℕ, zero, suc, _+_}
+use Prim.Native.Nat.{ℕ, zero, suc}
 use native.Mathlib.Omega.{arith}
-use lib.ListN.{length}
 use Rattle.lines.specs.Line.{decoded}
 use Rattle.store.specs.Layout.{allObjects}
 use Rattle.store.specs.Held.{lastEntry}
@@ -49,18 +48,8 @@ unfolding run
 sound-run p [] h = h
 sound-run p (line ∷ lines) h = sound-run (step p line) lines (sound-step p line h)
 
--- The first refusal stays, and lines that are not refused are counted.
+-- The first refusal stays.
 pub run-stopped : (n l : ℕ) (lines : List (List ℕ)) → run (stopped n l) lines ≡ stopped n l
 unfolding run step
 run-stopped n l [] = refl
 run-stopped n l (line ∷ lines) = run-stopped n l lines
-
-pub lines-run : (s t : Load) (lines : List (List ℕ)) → run (going s) lines ≡ going t → t .lines ≡ s .lines + length lines
-unfolding run step stepBy after
-lines-run s t [] e = let same : s ≡ t = cc in rw (← same) (omega arith)
-lines-run s t (line ∷ lines) e = go (refusalOf s line) e (lines-run (after s (decoded line)) t lines)
-  where
-    go : (n : ℕ) → run (stepBy n s line) lines ≡ going t → (run (going (after s (decoded line))) lines ≡ going t → t .lines ≡ s .lines + 1 + length lines)
-        → t .lines ≡ s .lines + length (line ∷ lines)
-    go zero d ih = omega (arith, ih d)
-    go (suc n) d ih = let z : _≡_ {A = ℕ} 0 1 = cc (run-stopped (suc n) (s .lines + 1) lines) in absurd (omega arith)

@@ -1,19 +1,11 @@
 -- Lists with one element more at their end.
 -- Assumes nothing.
 use mathlib.Core.Path.{_≡_, refl, sym, ap, _∙_}
-use mathlib.Core.Bool.{Bool, true, false, cond, _||_, So, false≢true, true≢false}
+use mathlib.Core.Bool.{Bool, false, So, false≢true}
 use mathlib.Core.List.{List, [], _∷_, _++_, map, append-nil}
-use Prim.Native.Nat.{suc}
-use native.Mathlib.Omega.{arith}
-use lib.ListN.{length, length-append}
+use Rattle.paths.proofs.Bools.{neither}
 use Rattle.gran.specs.Lists.{any, only, All, Distinct}
-
-pub neither : (a b : Bool) → (a || b) ≡ false → (a ≡ false) × (b ≡ false)
-neither true b e = absurd (true≢false e)
-neither false b e = (refl, e)
-
-pub length-more : {A : Type 0} (xs : List A) (x : A) → length (xs ++ x ∷ []) ≡ suc (length xs)
-length-more xs x = rw length-append (omega arith)
+use Rattle.gran.proofs.Members.{only-append}
 
 pub map-more : {A B : Type 0} (key : A → B) (xs : List A) (x : A) → map key (xs ++ x ∷ []) ≡ map key xs ++ key x ∷ []
 map-more key [] x = refl
@@ -49,17 +41,8 @@ module _ {A : Type 0} where
       (λ (d : key x ≡ k). false≢true (sym (p .0) ∙ f x d), all-apart key k test f xs (p .1))
 
   module _ (test : A → Bool) where
-    pub only-more : (xs : List A) (x : A) → only test (xs ++ x ∷ []) ≡ only test xs ++ cond (test x) (x ∷ []) []
-    only-more [] x = refl
-    only-more (y ∷ ys) x = go (test y) (only-more ys x)
-      where
-        go : (b : Bool) → only test (ys ++ x ∷ []) ≡ only test ys ++ cond (test x) (x ∷ []) []
-            → cond b (y ∷ only test (ys ++ x ∷ [])) (only test (ys ++ x ∷ [])) ≡ cond b (y ∷ only test ys) (only test ys) ++ cond (test x) (x ∷ []) []
-        go true ih = ap (λ (zs : List A). y ∷ zs) ih
-        go false ih = ih
-
     pub only-taken : (xs : List A) (x : A) → So (test x) → only test (xs ++ x ∷ []) ≡ only test xs ++ x ∷ []
-    only-taken xs x t = only-more xs x ∙ rw t
+    only-taken xs x t = only-append test xs (x ∷ []) ∙ rw t
 
     pub only-left : (xs : List A) (x : A) → test x ≡ false → only test (xs ++ x ∷ []) ≡ only test xs
-    only-left xs x e = only-more xs x ∙ rw e (append-nil (only test xs))
+    only-left xs x e = only-append test xs (x ∷ []) ∙ rw e (append-nil (only test xs))

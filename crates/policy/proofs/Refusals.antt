@@ -1,6 +1,6 @@
 -- What the tests of a frame that is not refused give.
 -- Assumes nothing.
-use mathlib.Core.Path.{_≡_, refl}
+use mathlib.Core.Path.{_≡_, refl, sym, _∙_}
 use mathlib.Core.Logic.{_⊎_, inl, inr}
 use mathlib.Core.Bool.{Bool, true, false, not, cond, _||_, So, false≢true}
 use mathlib.Core.List.{List}
@@ -86,6 +86,15 @@ order last type t = go (decide (eqb last 0)) (decide (eqb type 0x01)) (decide (e
     go (inr a) (inr b) (inr c) (inr d) =
         let u = rw (a, b, c, d) at t in
         record { below = λ x y. leb-true last type u; grouped = λ x y. absurd (omega (arith, ltb-false 0x40 type d)) }
+
+-- A frame that passed follows the last type.
+module _ (s : Load) (f : Frame) (p : Passed s f) where
+  pub next : Order (s .last) (typeOf f)
+  next = order (s .last) (typeOf f) (p .follows)
+
+  -- The last type is not above a type that begins no group and does not end the text.
+  pub last-below : (t : ℕ) → typeOf f ≡ t → (t ≡ 0x40 → ⊥) → (t ≡ 0x7f → ⊥) → s .last ≤ t
+  last-below t e a b = rw e at (next .below (λ x. a (sym e ∙ x)) (λ x. b (sym e ∙ x)))
 
 pub number4-range : (f : Frame) → Bytes (f .bytes) → (i : ℕ) → number4 f i ≤ noId
 unfolding number4

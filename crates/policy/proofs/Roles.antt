@@ -9,14 +9,15 @@ use native.Mathlib.Omega.{arith}
 use borrow.Author.Tests.{leb-false, eqb-false, not-true}
 use lib.Dec.{eqb, leb}
 use lib.ListN.{length}
-use Rattle.paths.proofs.Bools.{decide, both, left, right, either, or-left, or-right, eqb-of, eqb-to}
+use Rattle.paths.proofs.Bools.{decide, neither, both, left, right, either, or-left, or-right, eqb-of, eqb-to}
 use Rattle.gran.specs.Lists.{any, only, All, Distinct}
 use Rattle.gran.specs.Policy.{Policy, Role, USER, GROUP, SPECIAL, DEFAULT, noId}
 use Rattle.gran.specs.Role.{ofKind, isRole}
 use Rattle.gran.specs.Good.{GoodRole, roleId, rolesOf}
+use Rattle.gran.proofs.Lists.{length-more}
 use Rattle.policy.specs.Frames.{goodRole, hasRole, fullOf}
 use Rattle.policy.specs.Sound.{SoundRoles}
-use Rattle.policy.proofs.More.{neither, length-more, map-more, all-more, distinct-more, only-taken, only-left}
+use Rattle.policy.proofs.More.{map-more, all-more, distinct-more, only-taken, only-left}
 
 -- The test of a role's fields says `GoodRole`.
 pub good-role : (r : Role) → r .id ≤ noId → So (goodRole r) → GoodRole r

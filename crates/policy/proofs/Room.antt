@@ -1,8 +1,8 @@
 -- What a text's length bounds: the paths' bytes, the moves and the listed ids have room in the pool.
 -- Assumes nothing.
-use mathlib.Core.Path.{_≡_, refl, ap}
+use mathlib.Core.Path.{_≡_}
 use mathlib.Core.Bool.{true, So}
-use mathlib.Core.List.{List, [], _∷_, _++_}
+use mathlib.Core.List.{List, [], _∷_, _++_, append-nil}
 use Prim.Native.Nat.{ℕ, _+_, _-_, _*_, _≤_}
 use native.Mathlib.Nat.{le-add-right}
 use native.Mathlib.Omega.{arith}
@@ -14,16 +14,17 @@ use Rattle.paths.proofs.Paths.{good-short}
 use Rattle.lines.specs.declared.Frame.{Frame}
 use Rattle.lines.specs.Line.{decoded}
 use Rattle.rows.specs.Rows.{joined}
+use Rattle.rows.proofs.Tables.{joined-append}
 use Rattle.gran.specs.Lists.{All}
 use Rattle.gran.specs.Policy.{Policy, Entry}
 use Rattle.store.specs.Layout.{idsOf, allIds}
+use Rattle.gran.proofs.Lists.{length-more}
+use Rattle.store.proofs.Growing.{ids-more, changed-length}
 use Rattle.store.specs.Grow.{withEntries, onLast, addObject, addUid, addGid}
 use Rattle.policy.specs.Frames.{typeOf, pathFrom, frameTable, fitsTable, entryFrom, objectFrom, idFrom}
 use Rattle.policy.specs.Load.{Load, add, after, refusalOf}
 use Rattle.policy.specs.Sound.{SoundEntry, SoundPolicy, leastText, Roomy}
-use Rattle.policy.proofs.More.{length-more}
 use Rattle.policy.proofs.Types.{Other, by-type, add-other}
-use Rattle.policy.proofs.Entries.{length-onLast}
 use Rattle.policy.proofs.Moves.{few-moves}
 use Rattle.policy.proofs.Refusals.{taken}
 
@@ -48,11 +49,6 @@ roomy P sound h = record {
 
 -- ---- one frame more
 
-joined-more : (ps : List (List ℕ)) (p : List ℕ) → length (joined (ps ++ p ∷ [])) ≡ length (joined ps) + length p
-unfolding joined
-joined-more [] p = rw length-append (omega arith)
-joined-more (q ∷ ps) p = simp length-append (omega (arith, joined-more ps p))
-
 -- A change of the last entry that adds at most k ids.
 ids-onLast : (g : Entry → Entry) (k : ℕ) → ((e : Entry) → length (idsOf (g e)) ≤ length (idsOf e) + k) → (es : List Entry) → length (allIds (onLast g es)) ≤ length (allIds es) + k
 unfolding allIds onLast
@@ -62,11 +58,6 @@ ids-onLast g k f (e ∷ (d ∷ es)) = longer (idsOf e) (allIds (onLast g (d ∷ 
   where
     longer : (xs ys zs : List ℕ) → length ys ≤ length zs + k → length (xs ++ ys) ≤ length (xs ++ zs) + k
     longer xs ys zs h = simp length-append (omega arith)
-
-ids-more : (es : List Entry) (e : Entry) → idsOf e ≡ [] → allIds (es ++ e ∷ []) ≡ allIds es
-unfolding allIds
-ids-more [] e h = rw h
-ids-more (d ∷ es) e h = ap (λ (ns : List ℕ). idsOf d ++ ns) (ids-more es e h)
 
 -- What a frame adds takes no more text than its line has.
 module _ (P : Policy) (f : Frame) (fits : So (fitsTable frameTable (typeOf f) (f .size - 1))) where
@@ -82,7 +73,7 @@ module _ (P : Policy) (f : Frame) (fits : So (fitsTable frameTable (typeOf f) (f
   text-20 e =
       let some : 1 ≤ f .size - 1 = leb-true 1 (f .size - 1) (left _ _ (rw e at fits)) in
       let size : length (pathFrom f) ≤ f .size - 1 = rw length-take (omega arith) in
-      rw (e, length-more, joined-more) (omega arith)
+      rw (e, length-more, joined-append, length-append) (omega arith)
 
   text-30 : typeOf f ≡ 0x30 → Short
   unfolding Short leastText add fitsTable
@@ -94,13 +85,13 @@ module _ (P : Policy) (f : Frame) (fits : So (fitsTable frameTable (typeOf f) (f
   unfolding Short leastText add fitsTable idsOf
   text-40 e =
       let size : 5 ≤ f .size - 1 = leb-true 5 (f .size - 1) (left _ _ (rw e at fits)) in
-      rw (e, length-more, ids-more (P .entries) (entryFrom f) refl) (omega arith)
+      rw (e, length-more, ids-more (P .entries) (entryFrom f), append-nil (allIds (P .entries))) (omega arith)
 
   -- The last entry has k ids more.
   last-text : (g : Entry → Entry) (k : ℕ) → add P f ≡ withEntries P (onLast g (P .entries)) → ((e : Entry) → length (idsOf (g e)) ≤ length (idsOf e) + k)
       → 11 * k ≤ 2 * f .size + 1 → Short
   unfolding Short leastText
-  last-text g k e more size = rw (e, length-onLast) (omega (arith, ids-onLast g k more (P .entries)))
+  last-text g k e more size = rw (e, changed-length) (omega (arith, ids-onLast g k more (P .entries)))
 
   text-41 : typeOf f ≡ 0x41 → Short
   unfolding add idsOf

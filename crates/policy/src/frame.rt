@@ -3,6 +3,7 @@ ghost use mathlib.Core.Path.{_≡_};
 ghost use Prim.Native.Nat.{_<_};
 ghost use lib.ListN.{getD};
 ghost use Rattle.policy.specs.Frames.{byteAt, number2, number4, roleFrom, frameTable, fitsTable, mayFollow, goodRole, miscounts};
+use rows::wide;
 
 // A type with its shortest and longest payload.
 struct FrameType {
@@ -58,12 +59,6 @@ const FRAME_TYPES: [FrameType; 9] = [
         longest: 2,
     },
 ];
-
-fn wide(b: u8) -> usize
-    ensures { λ r. ⌜ (r ≡ b) × (r < 256) ⌝ }
-{
-    b as usize
-}
 
 fn word(b: u8) -> u32
     ensures { λ r. ⌜ (r ≡ b) × (r < 256) ⌝ }

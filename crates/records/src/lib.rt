@@ -9,7 +9,8 @@ ghost use Rattle.lines.specs.Line.{lineOf};
 ghost use Rattle.store.specs.Layout.{two, four};
 ghost use Rattle.records.specs.Record.{stepBytes, summary, filled, PutAs};
 
-// A step record: unused fields are 0, no role is 255.
+// A step record, laid out as C does (16 bytes): unused fields are 0, no role is 255.
+#[repr(C)]
 pub struct Step {
     pub kind: u8,
     pub role: u8,

@@ -1,7 +1,7 @@
 -- What a loaded store says of a process: its file, its entry, and that no entry lets it do nothing.
 -- Assumes nothing.
 use mathlib.Core.Path.{_≡_, refl, ap, _∙_}
-use mathlib.Core.Bool.{Bool, true, false, cond, _&&_, So}
+use mathlib.Core.Bool.{Bool, true, false, cond, _&&_, So, and-false}
 use mathlib.Core.List.{List, [], _∷_}
 use Prim.Native.Nat.{ℕ, _≤_}
 use native.Mathlib.Omega.{arith}
@@ -53,19 +53,15 @@ module _ (P : Policy) (σ : State) (no : entry P σ ≡ noEntry) where
   -- Only a special role can be set.
   pub no-step : (x : Step) → eqb (x .kind) 0x81 ≡ false → (names P σ x && may P σ (actOf P x)) ≡ false
   unfolding actOf may mayExec modesOf sees has
-  no-step x other = rw other (ap (λ (b : Bool). names P σ x && b) (go (eqb (x .kind) 0x82) (eqb (x .kind) 0x83)) ∙ never (names P σ x))
+  no-step x other = rw other (ap (λ (b : Bool). names P σ x && b) (go (eqb (x .kind) 0x82) (eqb (x .kind) 0x83)) ∙ and-false (names P σ x))
     where
-      never : (a : Bool) → (a && false) ≡ false
-      never true = refl
-      never false = refl
-
       f : List ℕ
       f = pathAt (P .paths) (x .file)
 
       go : (u g : Bool) → may P σ (cond u (setUid (x .uid)) (cond g (setGid (x .gid)) (exec f (x .uid) (x .gid)))) ≡ false
       go true g = rw no
       go false true = rw no
-      go false false = rw (no, never (isPath f))
+      go false false = rw (no, and-false (isPath f))
 
 -- ---- records
 

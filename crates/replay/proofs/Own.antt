@@ -11,10 +11,10 @@ use lib.ListN.{length, List·getD-eq-default}
 use borrow.Author.Tests.{lt-ltb}
 use Rattle.paths.specs.Path.{isPath}
 use Rattle.paths.proofs.Bools.{both, left, right, parts₅, eqb-of}
-use Rattle.gran.specs.Policy.{Policy, USER, GROUP, EXEC}
+use Rattle.gran.specs.Policy.{Policy, EXEC}
 use Rattle.gran.specs.Match.{pathAt, objectsOf, modesOf}
 use Rattle.gran.specs.Access.{sees}
-use Rattle.gran.specs.Good.{Good, GoodEntry}
+use Rattle.gran.specs.Good.{Good}
 use Rattle.gran.specs.Real
 use Rattle.gran.specs.Real.{stateOf, started}
 use Rattle.gran.specs.Abstract
@@ -23,8 +23,8 @@ use Rattle.gran.specs.Lists.{member}
 use Rattle.gran.specs.Reach.{Question, Granted}
 use Rattle.gran.specs.declared.Process.{Process}
 use Rattle.gran.specs.declared.State.{State}
-use Rattle.gran.proofs.Policies.{Known, roleOf-known, inForce-known, entryIn-good, entryIn-abstract, image-complete}
-use Rattle.gran.proofs.Step.{access-same, step-complete, next-known}
+use Rattle.gran.proofs.Policies.{Known, image-complete}
+use Rattle.gran.proofs.Step.{entry-same, entry-good, access-same, step-complete, next-known}
 use Rattle.gran.proofs.Processes.{started-is}
 use Rattle.records.specs.Record.{recordOf, recordsOf}
 use Rattle.records.specs.declared.Step.{Step}
@@ -42,18 +42,6 @@ named P n t = go (decLt n (length (P .paths)))
     go (no h) = let past : length (P .paths) ≤ n = omega arith in absurd (false≢true (rw (List·getD-eq-default (P .paths) [] past) at t))
 
 module _ (P : Policy) (good : Good P) (σ : Real.State) (known : Known P (σ .special)) where
-  role-known : Real.role P σ < length (P .roles)
-  unfolding Real.role
-  role-known = inForce-known P good (σ .special) _ _ known (roleOf-known P good USER (σ .uid)) (roleOf-known P good GROUP (σ .gid))
-
-  entry-good : GoodEntry P (Real.entry P σ)
-  unfolding Real.entry
-  entry-good = entryIn-good P good (Real.role P σ) role-known (σ .file)
-
-  entry-same : Abstract.entry P (abstract P σ) ≡ Real.entry P σ
-  unfolding Abstract.entry Real.entry Abstract.role Real.role abstract
-  entry-same = entryIn-abstract P good (Real.role P σ) role-known (σ .file)
-
   -- The record says the act that shows the step.
   record-act : (b : Abstract.Act) → actOf P (recordOf P σ b) ≡ realAct P σ b
   unfolding actOf recordOf realAct
@@ -76,8 +64,8 @@ module _ (P : Policy) (good : Good P) (σ : Real.State) (known : Known P (σ .sp
   record-names (Abstract.setGroup r) t = refl
   record-names (Abstract.exec o u g s) t =
       let e = Real.entry P σ in
-      let p = parts₅ (member o (objectsOf e)) (sees (modesOf e o) EXEC) _ _ (image P e o s) (rw entry-same at t) in
-      let there = image-complete P good e entry-good o s (p .0) (p .4) in
+      let p = parts₅ (member o (objectsOf e)) (sees (modesOf e o) EXEC) _ _ (image P e o s) (rw (entry-same P good σ known) at t) in
+      let there = image-complete P good e (entry-good P good σ known) o s (p .0) (p .4) in
       both (lt-ltb _ _ (named P (executed P e o s) (there .path))) (eqb-of (sym (there .object)))
 
   record-step : (b : Abstract.Act) → So (Abstract.may P (abstract P σ) b) → So (isStep P σ (recordOf P σ b))

@@ -3,56 +3,52 @@
 use mathlib.Core.Path.{_≡_, refl, sym, ap, _∙_}
 use mathlib.Core.Bool.{So}
 use mathlib.Core.List.{List}
-use Prim.Native.Nat.{ℕ, _+_, _-_, _≤_, _<_}
+use Prim.Native.Nat.{ℕ, suc, _+_, _-_, _≤_, _<_}
 use native.Mathlib.Omega.{arith}
 use lib.Dec.{eqb}
 use lib.ListN.{length, getD, take, drop, length-drop}
 use lib.Seq.{length-take-le, getD-take, getD-drop, ext-getD}
-use Rattle.gran.specs.Lists.{none, member, place, numbers}
+use Rattle.gran.specs.Lists.{none, member, place}
 use Rattle.gran.specs.Policy.{Policy, USER, GROUP, SPECIAL}
-use Rattle.gran.specs.Match.{subjects, pathsOfS, subjectOf, isSubject}
-use Rattle.gran.specs.Role.{ofKind, roleOf}
-use Rattle.gran.specs.Good.{Good, rolesOf}
+use Rattle.gran.specs.Match.{subjects, pathsOfS, subjectOf}
+use Rattle.gran.specs.Role.{roleOf}
+use Rattle.gran.specs.Good.{Good}
 use Rattle.gran.specs.Real
 use Rattle.gran.specs.Abstract.{abstract}
 use Rattle.gran.specs.Reach.{Question}
-use Rattle.gran.proofs.Policies.{subjects-named, subjectOf-self}
+use Rattle.gran.proofs.Policies.{S-most, subjects-named, subjectOf-self}
 use Rattle.runs.specs.Steps.{choices}
-use Rattle.runs.proofs.Lists.{member-has, only-of}
 use Rattle.tables.specs.Tables.{Tabled, cell, standCell}
 use Rattle.tables.proofs.Front.{getD-any}
+use Rattle.tables.proofs.Choices.{choices-length}
 use Rattle.fields.specs.Fields.{policyIn, specialCount, userCount, groupCount, subjectCount}
 use Rattle.fields.proofs.Header.{special-count, user-count, group-count, subject-count}
 use Rattle.store.specs.Held.{Loaded}
 use Rattle.numbered.specs.Number.{Sized, Inside, sizesOf, placesOf}
 use Rattle.numbered.specs.declared.Sizes.{Sizes}
-use Rattle.numbered.proofs.Places.{places-length}
-use Rattle.numbered.proofs.Members.{subjectOf-choice, sized}
+use Rattle.numbered.proofs.Members.{sized}
 use Rattle.numbered.proofs.Numbers.{abstract-inside}
 use Rattle.reply.specs.Reply.{Ready}
-
--- none, and the roles of a kind
-choices-length : (P : Policy) (k : ℕ) → length (choices P k) ≡ 1 + length (rolesOf P k)
-unfolding choices
-choices-length P k = omega (arith, places-length (ofKind k) 0 (P .roles))
 
 module _ {P : Policy} {rest s : List ℕ} (L : Loaded P rest s) where
   -- the header's counts
   pub sizes-are : (a b c d : ℕ) → a ≡ specialCount s → b ≡ userCount s → c ≡ groupCount s → d ≡ subjectCount s → record { specials = 1 + a; users = 1 + b; groups = 1 + c; subjects = d } ≡ sizesOf P
   unfolding sizesOf
-  sizes-are a b c d e f g h = rw (
-    e,
-    f,
-    g,
-    h,
-    special-count L,
-    user-count L,
-    group-count L,
-    subject-count L,
-    choices-length P SPECIAL,
-    choices-length P USER,
-    choices-length P GROUP,
-  )
+  sizes-are a b c d e f g h =
+      let one : (n : ℕ) → 1 + n ≡ suc n = λ n. omega arith in
+      rw (
+        e,
+        f,
+        g,
+        h,
+        special-count L,
+        user-count L,
+        group-count L,
+        subject-count L,
+        choices-length P SPECIAL,
+        choices-length P USER,
+        choices-length P GROUP,
+      ) (simp one)
 
 -- a list whose members stand in the cells from a place on
 pub part-is : (xs t : List ℕ) (from : ℕ) → from + length xs ≤ length t → ((j : ℕ) → j < length xs → cell t (from + j) ≡ getD xs j none) → take (length xs) (drop from t) ≡ xs
@@ -71,8 +67,7 @@ module _ (P : Policy) where
 
   module _ (good : Good P) (f : List ℕ) where
     of-S : So (member (subjectOf P f) (subjects P))
-    unfolding pathsOfS
-    of-S = only-of (isSubject P) (numbers 0 (length (P .paths))) (member-has (subjectOf P f) (pathsOfS P) (subjectOf-choice P good f)) .1
+    of-S = S-most P good f .inside
 
     -- The subject that a file stands for stands for itself.
     pub stand-place : {q : Question} {t : List ℕ} → Tabled P q t → cell t (standCell (subjectOf P f)) ≡ place (eqb (subjectOf P f)) 0 (pathsOfS P)

@@ -1,14 +1,12 @@
 -- The end of a search: the answer that it gives, and the run that is to be written.
 -- Assumes nothing.
 use mathlib.Core.Path.{_≡_, sym, ap, _∙_}
-use mathlib.Core.Bool.{true}
-use mathlib.Core.List.{List, _++_, append-nil}
+use mathlib.Core.List.{List, _++_}
 use Prim.Native.Nat.{ℕ, _+_, _-_, _≤_, _<_}
 use native.Mathlib.Nat.{zero-add}
 use native.Mathlib.Omega.{arith}
-use borrow.Author.Tests.{le-leb, lt-leb}
-use lib.ListN.{length, getD, length-append, take, drop, drop-of-length-le}
-use lib.Seq.{length-take-le}
+use borrow.Author.Tests.{le-leb, lt-leb, eq-eqb, ne-eqb}
+use lib.ListN.{length, getD, length-append}
 use Rattle.lines.specs.Line.{zeros, inFront}
 use Rattle.gran.specs.Real.{stateOf, started}
 use Rattle.gran.specs.Abstract.{Act, abstract}
@@ -25,16 +23,17 @@ use Rattle.records.proofs.Bytes.{stepLines-most, recordsOf-length, summary-leng
 use Rattle.records.proofs.Putting.{putting-starts}
 use Rattle.tables.specs.Tables.{Tabled}
 use Rattle.walk.specs.Walk.{Walk, Cleared, search, trail, Written}
-use Rattle.walk.specs.Needed.{walkOf, Kept}
+use Rattle.walk.specs.Needed.{walkOf, Kept, Rest}
 use Rattle.walk.specs.declared.Progress.{Progress}
 use Rattle.walk.proofs.Keeping.{kept-count, zeros-cleared}
+use Rattle.walk.proofs.Targets.{search-kept}
+use Rattle.walk.proofs.Rests.{search-rest}
 use Rattle.walk.proofs.Found.{search-never, search-met}
 use Rattle.ask.specs.Ask.{Asked, Lines, never, reached, startOf, questionOf, roomWith, answerWith}
 use Rattle.ask.specs.declared.Answer.the-variants.{Answered, Short}
 use Rattle.reply.specs.Reply.{Held, Ready, Told}
 use Rattle.reply.specs.Run.{realAfter, stateAfter, Traced, Lying, Writable, Wrote, Ended}
 use Rattle.reply.proofs.Digits.{ready-sized, start-inside}
-use Rattle.reply.proofs.Kept.{search-kept}
 use Rattle.reply.proofs.Places.{shownActs, traced-of}
 
 -- ---- lines and a room
@@ -60,7 +59,7 @@ put-first p = (p .next ∙ zero-add _, p .room ∙ rw zero-add)
 -- ---- a run that was found
 
 module _ {s t area : List ℕ} {z : Sizes} {w : Progress} {start : Process} (g : Ended s t area z w start) where
-  module _ (m : w .met ≡ true) where
+  module _ (m : w .met ≡ 1) where
     -- The run, and the lines of the answer that shows it.
     abbrev pub runOf : List Act
     runOf = shownActs (g .met m)
@@ -124,12 +123,6 @@ ready-of a h t e = record { held = h; tabled = t; sizes = e }
 pub clear-of : {area : List ℕ} {n : ℕ} → area ≡ zeros n → n ≡ 24576 → Cleared area
 clear-of e h = rw (e, h) zeros-cleared
 
--- all of it is cleared
-pub clear-all : (area : List ℕ) {part : List ℕ} (n : ℕ) → length area ≡ n → part ≡ zeros (length (take n area)) → part ++ drop n area ≡ zeros n
-clear-all area n h e =
-    let most : length area ≤ n = omega arith in
-    rw (drop-of-length-le area most, append-nil) (e ∙ ap zeros (length-take-le n area (omega arith)))
-
 module _ {s t : List ℕ} {z : Sizes} (a : Asked) (r : Ready (questionOf a) s t z) (from : ℕ) (number : from ≡ stateNumber (policyIn s) (abstract (policyIn s) (startOf a))) where
   pub inside : Inside (policyIn s) (abstract (policyIn s) (startOf a))
   inside = start-inside r (a .uid) (a .gid) (a .start)
@@ -138,7 +131,13 @@ module _ {s t : List ℕ} {z : Sizes} (a : Asked) (r : Ready (questionOf a) s t 
   unfolding stateNumber
   start-state = rw (number, r .sizes) (numberOf-lt (places-among (policyIn s) (abstract (policyIn s) (startOf a)) inside))
 
-  module _ {area after : List ℕ} (clear : Cleared area) {w : Progress} (e : walkOf after w ≡ search (goalAt t z) (candidates s t z) from area) where
+  module _ {area after : List ℕ} (clear : Cleared area) (w : Progress) (e : walkOf after w ≡ search (goalAt t z) (candidates s t z) from area) where
+    -- In an area that was zero, the states' numbers alone are set.
+    pub rest : area ≡ zeros 24576 → Rest 0 (allStates z) after
+    rest blank =
+        let is : after ≡ search (goalAt t z) (candidates s t z) from (zeros 24576) .area = ap (λ (x : Walk). x .area) e ∙ ap (λ (l : List ℕ). search (goalAt t z) (candidates s t z) from l .area) blank in
+        rw is (search-rest (ready-sized r) s t (goalAt t z) from start-state)
+
     pub kept : Kept z (walkOf after w)
     kept = rw e (search-kept (ready-sized r) s t (goalAt t z) from area start-state clear)
 
@@ -155,7 +154,7 @@ module _ {s t : List ℕ} {z : Sizes} (a : Asked) (r : Ready (questionOf a) s t 
       starts = ap (stateOf (policyIn s) (a .start)) b ∙ started-is (policyIn s) (a .start) (a .uid) (a .gid);
       few = kept-count z kept;
       never = λ m.
-          let all = search-never (policyIn s) _ s (questionOf a) t (r .held) (r .tabled) (abstract (policyIn s) (startOf a)) inside area clear (ap (λ (x : Walk). x .met) (sym found) ∙ m) in
+          let all = search-never (policyIn s) _ s (questionOf a) t (r .held) (r .tabled) (abstract (policyIn s) (startOf a)) inside area clear (ap (λ (x : Walk). x .met) (sym found) ∙ ne-eqb _ _ m) in
           rw (ap (λ (x : Walk). x .count) found) all;
-      met = λ m. rw found (search-met (policyIn s) _ s (questionOf a) t (r .held) (r .tabled) (abstract (policyIn s) (startOf a)) inside area clear (ap (λ (x : Walk). x .met) (sym found) ∙ m));
+      met = λ m. rw found (search-met (policyIn s) _ s (questionOf a) t (r .held) (r .tabled) (abstract (policyIn s) (startOf a)) inside area clear (ap (λ (x : Walk). x .met) (sym found) ∙ eq-eqb _ _ m));
     }

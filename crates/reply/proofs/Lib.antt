@@ -2,6 +2,5 @@ pub mod Digits
 pub mod Steps
 pub mod Places
 pub mod Lines
-pub mod Kept
 pub mod Ends
 pub mod Loads

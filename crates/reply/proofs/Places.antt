@@ -2,7 +2,7 @@
 -- Assumes nothing.
 use mathlib.Core.Path.{_≡_, refl, sym, ap, _∙_}
 use mathlib.Core.Bool.{Bool, true, false, cond}
-use mathlib.Core.List.{List, [], _∷_, _++_}
+use mathlib.Core.List.{List, [], _∷_}
 use Prim.Native.Nat.{ℕ, zero, suc, _+_, _-_, _≤_, _<_}
 use native.Mathlib.Omega.{arith}
 use lib.Dec.{eqb}
@@ -13,15 +13,12 @@ use Rattle.gran.specs.Policy.{Policy}
 use Rattle.gran.specs.Abstract.{Act, setSpecial, next, last}
 use Rattle.gran.specs.Reach.{Question}
 use Rattle.gran.specs.declared.State.{State}
+use Rattle.runs.proofs.Trails.{last-append}
 use Rattle.runs.specs.Search.{Queued, stateAt, parentAt, actAt}
 use Rattle.numbered.specs.Number.{stateNumber}
 use Rattle.walk.specs.Walk.{Walk, mark, labelled, trail, Written}
 use Rattle.walk.specs.Found.{Linking, Chain, actsAlong, Met}
 use Rattle.reply.specs.Run.{actOf, stateAfter, Marked, Traced}
-
-last-more : (α : State) (acts : List Act) (a : Act) → last α (acts ++ a ∷ []) ≡ next (last α acts) a
-last-more α [] a = refl
-last-more α (b ∷ acts) a = last-more (next α b) acts a
 
 trail-few : (area : List ℕ) (fuel k : ℕ) → length (trail area fuel k) ≤ fuel
 unfolding trail
@@ -40,7 +37,7 @@ module _ {P : Policy} {q : Question} {α : State} {w : Walk} (m : Met P q α w) 
   along-last : (k : ℕ) (ks : List ℕ) → Chain (m .found) k ks → last α (actsAlong (m .found) ks) ≡ stateAt (m .found) k
   along-last k [] z = rw z (sym (m .linked .starts))
   along-last k (j ∷ js) (e, pos, h, c) =
-      last-more α (actsAlong (m .found) js) (actAt (m .found) j)
+      last-append α (actsAlong (m .found) js) (actAt (m .found) j ∷ [])
       ∙ ap (λ (β : State). next β (actAt (m .found) j)) (along-last (parentAt (m .found) j) js c)
       ∙ m .linked .steps j pos h .leads ∙ ap (stateAt (m .found)) (sym e)
 

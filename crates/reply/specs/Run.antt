@@ -1,7 +1,7 @@
 -- A run that a search found, and its lines while they are written: what the functions that write it require and leave.
 -- Assumes nothing.
 use mathlib.Core.Path.{_≡_}
-use mathlib.Core.Bool.{true, false, So}
+use mathlib.Core.Bool.{So}
 use mathlib.Core.List.{List, _++_}
 use Prim.Native.Nat.{ℕ, suc, _+_, _≤_, _<_}
 use lib.ListN.{length, getD, take}
@@ -92,5 +92,5 @@ pub record Ended (s t area : List ℕ) (z : Sizes) (w : Progress) (start : Proce
   pub ready : Ready (questionOf asked) s t z
   pub starts : stateOf (policyIn s) (asked .start) start ≡ startOf asked
   pub few : w .count ≤ 8192
-  pub never : w .met ≡ false → Unreached (policyIn s) (questionOf asked) (abstract (policyIn s) (startOf asked)) (w .count)
-  pub met : w .met ≡ true → Met (policyIn s) (questionOf asked) (abstract (policyIn s) (startOf asked)) (walkOf area w)
+  pub never : (w .met ≡ 1 → ⊥) → Unreached (policyIn s) (questionOf asked) (abstract (policyIn s) (startOf asked)) (w .count)
+  pub met : w .met ≡ 1 → Met (policyIn s) (questionOf asked) (abstract (policyIn s) (startOf asked)) (walkOf area w)

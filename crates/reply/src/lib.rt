@@ -8,7 +8,6 @@ use gran::Process;
 use numbered::Sizes;
 use walk::Progress;
 ghost use mathlib.Core.Path.{_≡_};
-ghost use mathlib.Core.Bool.{true};
 ghost use Prim.Native.Nat.{_≤_};
 ghost use lib.ListN.{length};
 ghost use Rattle.fields.specs.Fields.{policyIn};
@@ -57,7 +56,7 @@ fn reached(
     start: Process,
     room: &mut [u8],
 ) -> Answer
-    requires { ⌜ Ended (now store) (now t) (now area) z w start × (w .met ≡ true) ⌝ }
+    requires { ⌜ Ended (now store) (now t) (now area) z w start × (w .met ≡ 1) ⌝ }
     ensures { λ r. ⌜ ((g : Ended (now (store .entry)) (now (t .entry)) (now (area .entry)) z w start) → Answers (policyIn (now (store .entry))) (g .asked) (now (room .entry)) r (now (room .exit))) ⌝ }
 {
     let opened = w.count - 1;
@@ -91,7 +90,7 @@ fn told(
     ensures { λ r. ⌜ ((g : Ended (now (store .entry)) (now (t .entry)) (now (area .entry)) z w start) → Answers (policyIn (now (store .entry))) (g .asked) (now (room .entry)) r (now (room .exit))) ⌝ }
 {
     let met = w.met;
-    if met {
+    if met == 1 {
         return reached(area, store, t, z, w, start, room);
     }
     never(room, w.count)
@@ -119,6 +118,6 @@ pub fn respond(
     walk::clear(area);
     let w = walk::search(area, store, &t, z, from);
     let r = told(area, store, &t, z, w, Process::start(uid, gid), room);
-    walk::clear(&mut area[..ask::WORK]);
+    walk::wipe(area, z);
     r
 }

@@ -1,6 +1,7 @@
 // A run that a search found: the length of its lines, and the lines, from the first step on.
 use crate::Writing;
 use numbered::Sizes;
+use walk::LABELS;
 ghost use mathlib.Core.Path.{_≡_};
 ghost use mathlib.Core.List.{_++_};
 ghost use Prim.Native.Nat.{_+_, _<_};
@@ -10,9 +11,6 @@ ghost use Rattle.gran.specs.Real as real;
 ghost use Rattle.fields.specs.Fields.{policyIn};
 ghost use Rattle.records.specs.Record.{recordOf, recordsOf, stepBytes, stepLines};
 ghost use Rattle.reply.specs.Run.{actOf, Lying, Writable, Wrote};
-
-// Where labels begin in the work area.
-const LABELS: usize = 16384;
 
 // The length of the line of step `k` of a run of `n` steps.
 fn step_length(area: &[u16], out: &[u16], n: usize, k: usize) -> usize

@@ -24,11 +24,6 @@ unfolding joined
 joined-append [] row = append-nil row
 joined-append (r ∷ rows) row = rw (joined-append rows row) (sym (append-assoc r (joined rows) row))
 
-pub wide-append : (width : ℕ) (rows : List (List ℕ)) (row : List ℕ) → Wide width rows → length row ≡ width → Wide width (rows ++ (row ∷ []))
-unfolding Wide
-wide-append width [] row w e = (e, tt)
-wide-append width (r ∷ rows) row w e = (w .0, wide-append width rows row (w .1) e)
-
 -- byte k of row r, whatever lies behind the rows; past the last row both are 0
 pub joined-at : (width : ℕ) (rows : List (List ℕ)) → Wide width rows → (r k : ℕ) → k < width → getD (joined rows) (r * width + k) 0 ≡ getD (getD rows r []) k 0
 unfolding joined Wide

@@ -1,11 +1,18 @@
 // Tables in lent bytes: rows of one width, found by how they begin, written behind one another, cleared. Rests on `lines`.
 // What a reader must believe stands in specs/Rows.antt.
 ghost use mathlib.Core.Path.{_≡_};
-ghost use Prim.Native.Nat.{_+_, _*_, _≤_};
+ghost use Prim.Native.Nat.{_+_, _*_, _≤_, _<_};
 ghost use lib.ListN.{length};
 ghost use lib.Seq.{paste};
 ghost use Rattle.lines.specs.Line.{zeros};
 ghost use Rattle.rows.specs.Rows.{rowsOf, beginsWith, hasRow};
+
+// A byte as a number.
+pub fn wide(b: u8) -> usize
+    ensures { λ r. ⌜ (r ≡ b) × (r < 256) ⌝ }
+{
+    b as usize
+}
 
 // Whether a row begins with the key.
 fn begins_with(row: &[u8], key: &[u8]) -> bool

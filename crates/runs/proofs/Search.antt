@@ -11,6 +11,7 @@ use Rattle.gran.specs.Policy.{Policy}
 use Rattle.gran.specs.Lists.{none}
 use Rattle.gran.specs.Abstract.{Act, setSpecial, next}
 use Rattle.gran.specs.declared.State.{State}
+use Rattle.gran.proofs.Lists.{length-more}
 use Rattle.runs.specs.Steps.{steps}
 use Rattle.runs.specs.Trail.{Trail, Ahead, NoLater, width, stepAt, to, IsStep, end, Arrives}
 use Rattle.runs.specs.Search.{Queued, first, queued, stateAt, parentAt, actAt, trailAt, Known, Tried, Child, Searched}
@@ -19,9 +20,6 @@ use Rattle.runs.proofs.Order.{irrefl, trans, asym, order, total, grows,
 -- ---- a longer queue
 
 module _ (found : List Queued) (e : Queued) where
-  pub length-more : length (found ++ e ∷ []) ≡ suc (length found)
-  length-more = length-append found (e ∷ []) ∙ omega arith
-
   queued-old : (k : ℕ) → k < length found → queued (found ++ e ∷ []) k ≡ queued found k
   unfolding queued
   queued-old k h = List·getD-append found (e ∷ []) _ k h
@@ -70,7 +68,7 @@ module _ (found : List Queued) (e : Queued) where
       go : (k < length found) ⊎ ((k ≡ length found) ⊎ (length found < k)) → Q k
       go (inl lt) = old k lt
       go (inr (inl eq)) = rw eq new
-      go (inr (inr gt)) = absurd (omega (arith, length-more))
+      go (inr (inr gt)) = absurd (omega (arith, length-more found e))
 
 module _ (P : Policy) (α : State) where
   -- The search begins at the start.

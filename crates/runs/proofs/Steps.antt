@@ -3,13 +3,13 @@
 use mathlib.Core.Path.{_≡_, sym, ap, _∙_}
 use mathlib.Core.Logic.{_⊎_, inl, inr}
 use mathlib.Core.Bool.{Bool, false, not, So}
-use mathlib.Core.List.{_∷_, _++_, map, List·Memᴰ, List·Memᴰ·head, List·Memᴰ·tail, List·Memᴰ·append-cases, Memᴰ·cast, Memᴰ·map, Memᴰ·of-map, Memᴰ·append-left, Memᴰ·append-right}
+use mathlib.Core.List.{_++_, map, List·Memᴰ, List·Memᴰ·head, List·Memᴰ·tail, List·Memᴰ·append-cases, Memᴰ·cast, Memᴰ·map, Memᴰ·of-map, Memᴰ·append-left, Memᴰ·append-right}
 use Prim.Native.Nat.{ℕ, _+_, _<_}
 use native.Mathlib.Omega.{arith}
 use lib.Dec.{eqb}
 use lib.ListN.{length, getD}
 use Rattle.paths.proofs.Bools.{decide, both, left, right, either, eqb-to, parts₅}
-use Rattle.gran.specs.Lists.{none, any, member, place, places, numbers}
+use Rattle.gran.specs.Lists.{none, any, member, place, numbers}
 use Rattle.gran.specs.Policy.{Policy, Allowed, Entry, USER, GROUP, SPECIAL, SET-UID, SET-GID, EXEC}
 use Rattle.gran.specs.Match.{pathsOfS, isSubject, subjects, objectsOf, modesOf}
 use Rattle.gran.specs.Role.{ofKind, isRole, isMove, noRole, roleOf, mayTake}
@@ -24,7 +24,8 @@ use Rattle.gran.proofs.Policies.{reaches-role, subjects-named}
 use Rattle.runs.specs.Steps.{choices, isOther, keptFirst, canSet, canFollow, executable, specialsFrom, usersSet, groupsSet, executables, usersAfter, groupsAfter, subjectsAfter, execsTo, execsAs, execsOf, execs, stepsIn, steps}
 use Rattle.runs.proofs.Rising.{steps-rising}
 use Rattle.runs.proofs.Order.{order, sooner-asym}
-use Rattle.runs.proofs.Lists.{mem-at, only-has, only-of, places-has, member-has, has-member, numbers-has, each-has, each-of}
+use Rattle.gran.proofs.Members.{mem-at, only-has, only-of, places-has, member-has, has-member, numbers-has}
+use Rattle.runs.proofs.Lists.{each-has, each-of}
 
 -- ---- each of the list may be done
 
@@ -73,24 +74,28 @@ module _ (P : Policy) (α : State) where
 
 module _ (P : Policy) where
   -- A role of a kind, by number, is a choice.
-  numbered : (k j : ℕ) → j < length (P .roles) → So (ofKind k (getD (P .roles) j noRole)) → List·Memᴰ j (choices P k)
+  pub numbered : (k j : ℕ) → j < length (P .roles) → So (ofKind k (getD (P .roles) j noRole)) → List·Memᴰ j (choices P k)
   unfolding choices
   numbered k j l t = List·Memᴰ·tail (Memᴰ·cast (omega arith) (places-has (ofKind k) noRole 0 (P .roles) j l t))
 
-  reaches-choice : (k : ℕ) (a : Allowed) (r : ℕ) → So (reaches P k a r) → List·Memᴰ r (choices P k)
-  unfolding roleOf choices
-  reaches-choice k a r t = go (place-is (isRole k n) noRole 0 (P .roles))
+  pub none-choice : (k r : ℕ) → r ≡ none → List·Memᴰ r (choices P k)
+  unfolding choices
+  none-choice k r e = List·Memᴰ·head e
+
+  -- The role of an id, or none.
+  pub roleOf-choice : (k n : ℕ) → List·Memᴰ (roleOf P k n) (choices P k)
+  unfolding roleOf
+  roleOf-choice k n = go (place-is (isRole k n) noRole 0 (P .roles))
     where
-      n : ℕ
-      n = idFor P k a r
+      r : ℕ
+      r = place (isRole k n) 0 (P .roles)
 
-      is-r : place (isRole k n) 0 (P .roles) ≡ r
-      is-r = reaches-role P k a r t
+      go : (r ≡ none) ⊎ ((j : ℕ) × (r ≡ 0 + j) × (j < length (P .roles)) × So (isRole k n (getD (P .roles) j noRole))) → List·Memᴰ r (choices P k)
+      go (inl e) = none-choice k r e
+      go (inr (j, e, l, t)) = Memᴰ·cast (omega arith) (numbered k j l (left (ofKind k (getD (P .roles) j noRole)) _ t))
 
-      go : (place (isRole k n) 0 (P .roles) ≡ none) ⊎ ((j : ℕ) × (place (isRole k n) 0 (P .roles) ≡ 0 + j) × (j < length (P .roles)) × So (isRole k n (getD (P .roles) j noRole)))
-          → List·Memᴰ r (none ∷ places (ofKind k) 0 (P .roles))
-      go (inl e) = List·Memᴰ·head (sym is-r ∙ e)
-      go (inr (j, e, l, u)) = Memᴰ·cast (omega (arith, is-r)) (numbered k j l (left (ofKind k (getD (P .roles) j noRole)) _ u))
+  pub reaches-choice : (k : ℕ) (a : Allowed) (r : ℕ) → So (reaches P k a r) → List·Memᴰ r (choices P k)
+  reaches-choice k a r t = rw (reaches-role P k a r t) at (roleOf-choice k (idFor P k a r))
 
   set-choice : (k : ℕ) (cap : Bool) (a : Allowed) (r : ℕ) → So (canSet P k cap a r) → List·Memᴰ r (choices P k)
   unfolding canSet
@@ -106,24 +111,25 @@ module _ (P : Policy) where
       go (inr e) (inr u) = List·Memᴰ·tail (only-has (isOther kept) (choices P k) (reaches-choice k a r u) (ap not e))
 
   module _ (good : Good P) where
-    special-choice : (r s : ℕ) → So (mayTake P r s) → List·Memᴰ s (choices P SPECIAL)
-    unfolding mayTake choices
+    pub special-choice : (r s : ℕ) → So (mayTake P r s) → List·Memᴰ s (choices P SPECIAL)
+    unfolding mayTake
     special-choice r s t = go (either (eqb s none) _ t)
       where
-        go : So (eqb s none) ⊎ So (any (isMove r s) (P .moves)) → List·Memᴰ s (none ∷ places (ofKind SPECIAL) 0 (P .roles))
-        go (inl e) = List·Memᴰ·head (eqb-to s none e)
+        go : So (eqb s none) ⊎ So (any (isMove r s) (P .moves)) → List·Memᴰ s (choices P SPECIAL)
+        go (inl e) = none-choice SPECIAL s (eqb-to s none e)
         go (inr u) =
             let m = any-all (isMove r s) (GoodMove P) (P .moves) u (good .moves) in
             let is-s = eqb-to (m .0 .special) s (right (eqb (m .0 .role) r) _ (m .1)) in
             Memᴰ·cast (sym is-s) (numbered SPECIAL (m .0 .special) (m .2 .to) (m .2 .special))
 
+    -- A subject of S is one of its paths.
+    pub path-of-S : (s : ℕ) → So (member s (subjects P)) → List·Memᴰ s (pathsOfS P)
+    unfolding pathsOfS
+    path-of-S s m = only-has (isSubject P) (numbers 0 (length (P .paths))) (Memᴰ·cast (omega arith) (numbers-has 0 (length (P .paths)) s (subjects-named P good s m))) m
+
     subject-path : (e : Entry) (o s : ℕ) → So (image P e o s) → List·Memᴰ s (subjectsAfter P e o)
-    unfolding image subjectsAfter pathsOfS
-    subject-path e o s t = only-has (image P e o) (pathsOfS P)
-        (only-has (isSubject P) (numbers 0 (length (P .paths))) (Memᴰ·cast (omega arith) (numbers-has 0 (length (P .paths)) s (subjects-named P good s in-S))) in-S) t
-      where
-        in-S : So (member s (subjects P))
-        in-S = left (member s (subjects P)) _ t
+    unfolding image subjectsAfter
+    subject-path e o s t = only-has (image P e o) (pathsOfS P) (path-of-S s (left (member s (subjects P)) _ t)) t
 
     module _ (α : State) where
       execs-has : (o u g s : ℕ) → So (mayExec P (entry P α) α o u g s) → List·Memᴰ (exec o u g s) (execs P (entry P α) α)

@@ -16,30 +16,30 @@ use Rattle.gran.specs.Run.{key, keys, Sooner, Before, Leads}
 use Rattle.gran.specs.declared.State.{State}
 use Rattle.runs.specs.Steps.{steps}
 use Rattle.runs.specs.Trail.{Trail, Ahead, NoLater, width, stepAt, to, end, Fits, Arrives, actsOf}
-use Rattle.runs.proofs.Lists.{mem-at, at-mem}
+use Rattle.gran.proofs.Members.{mem-at, at-mem}
 use Rattle.runs.proofs.Rising.{steps-rising}
 use Rattle.runs.proofs.Steps.{steps-may, steps-has}
 use Rattle.runs.proofs.Order.{total, earlier-snoc, earlier-last, before-asym}
 
--- ---- one more act
+-- ---- more acts
 
-module _ (P : Policy) (a : Act) where
-  last-snoc : (α : State) (xs : List Act) → last α (xs ++ a ∷ []) ≡ next (last α xs) a
-  last-snoc α [] = refl
-  last-snoc α (x ∷ xs) = last-snoc (next α x) xs
+pub last-append : (α : State) (xs ys : List Act) → last α (xs ++ ys) ≡ last (last α xs) ys
+last-append α [] ys = refl
+last-append α (x ∷ xs) ys = last-append (next α x) xs ys
 
-  keys-snoc : (α : State) (xs : List Act) → keys P α (xs ++ a ∷ []) ≡ keys P α xs ++ key P (last α xs) a ∷ []
-  keys-snoc α [] = refl
-  keys-snoc α (x ∷ xs) = ap (λ (ks : List (List ℕ)). key P α x ∷ ks) (keys-snoc (next α x) xs)
+module _ (P : Policy) where
+  pub run-append : (α : State) (xs ys : List Act) → So (run P α xs) → So (run P (last α xs) ys) → So (run P α (xs ++ ys))
+  run-append α [] ys h t = t
+  run-append α (x ∷ xs) ys h t = both (left (may P α x) _ h) (run-append (next α x) xs ys (right (may P α x) _ h) t)
 
-  run-snoc : (α : State) (xs : List Act) → So (run P α xs) → So (may P (last α xs) a) → So (run P α (xs ++ a ∷ []))
-  run-snoc α [] h t = both t refl
-  run-snoc α (x ∷ xs) h t = both (left (may P α x) _ h) (run-snoc (next α x) xs (right (may P α x) _ h) t)
+  keys-snoc : (a : Act) (α : State) (xs : List Act) → keys P α (xs ++ a ∷ []) ≡ keys P α xs ++ key P (last α xs) a ∷ []
+  keys-snoc a α [] = refl
+  keys-snoc a α (x ∷ xs) = ap (λ (ks : List (List ℕ)). key P α x ∷ ks) (keys-snoc a (next α x) xs)
 
 -- ---- steps by their places
 
 module _ (P : Policy) where
-  stepAt-may : (β : State) (i : ℕ) → i < width P β → So (may P β (stepAt P β i))
+  pub stepAt-may : (β : State) (i : ℕ) → i < width P β → So (may P β (stepAt P β i))
   unfolding stepAt
   stepAt-may β i h = steps-may P β (getD (steps P β) i (setSpecial none)) (at-mem (setSpecial none) (steps P β) i h)
 
@@ -58,11 +58,11 @@ module _ (P : Policy) (α : State) where
   acts-last : (r : Trail) → last α (actsOf P α r) ≡ end P α r
   unfolding to
   acts-last [] = refl
-  acts-last (i ∷ r) = last-snoc P (stepAt P (end P α r) i) α (actsOf P α r) ∙ ap (λ (β : State). next β (stepAt P (end P α r) i)) (acts-last r)
+  acts-last (i ∷ r) = last-append α (actsOf P α r) (stepAt P (end P α r) i ∷ []) ∙ ap (λ (β : State). next β (stepAt P (end P α r) i)) (acts-last r)
 
   acts-run : (r : Trail) → Fits P α r → So (run P α (actsOf P α r))
   acts-run [] h = refl
-  acts-run (i ∷ r) h = run-snoc P (stepAt P (end P α r) i) α (actsOf P α r) (acts-run r (h .0)) (rw (acts-last r) (stepAt-may P (end P α r) i (h .1)))
+  acts-run (i ∷ r) h = run-append P α (actsOf P α r) (stepAt P (end P α r) i ∷ []) (acts-run r (h .0)) (rw (acts-last r) (both (stepAt-may P (end P α r) i (h .1)) refl))
 
   pub arrives-leads : (r : Trail) (β : State) → Arrives P α r β → Leads P α β (actsOf P α r)
   arrives-leads r β h = record { runs = acts-run r (h .0); ends = acts-last r ∙ h .1 }

@@ -1,52 +1,29 @@
 -- A process that stands for a state: the same entry is in force, and a step leads to a process that stands for the next state.
 -- Assumes nothing.
-use mathlib.Core.Path.{_≡_, refl, sym, ap, _∙_}
+use mathlib.Core.Path.{_≡_, sym, ap, _∙_}
 use mathlib.Core.Bool.{So}
 use mathlib.Core.List.{List}
-use Prim.Native.Nat.{ℕ, _<_}
-use lib.ListN.{length}
+use Prim.Native.Nat.{ℕ}
 use Rattle.gran.specs.Policy.{Policy, USER, GROUP, SPECIAL}
 use Rattle.gran.specs.Match.{pathAt}
 use Rattle.gran.specs.Role.{roleOf}
 use Rattle.gran.specs.Good.{Good}
 use Rattle.gran.specs.Real
-use Rattle.gran.specs.Real.{stateOf, started}
+use Rattle.gran.specs.Real.{stateOf}
 use Rattle.gran.specs.Abstract.{Act, abstract, role, entry, may, next, realAct}
 use Rattle.gran.specs.Reach.{Question}
 use Rattle.gran.specs.declared.State.{State}
 use Rattle.gran.specs.declared.Process.{Process}
-use Rattle.gran.proofs.Policies.{Known, roleOf-known, inForce-known, entryIn-abstract}
-use Rattle.gran.proofs.Processes.{started-is}
-use Rattle.gran.proofs.Step.{step-complete}
+use Rattle.gran.proofs.Policies.{Known}
+use Rattle.gran.proofs.Step.{entry-same, step-complete}
 use Rattle.lookup.specs.Lookup.{entryAt, InForce}
 use Rattle.records.specs.Record.{recordOf}
-use Rattle.tables.specs.Tables.{Tabled}
-use Rattle.numbered.specs.Number.{sizesOf}
 use Rattle.numbered.specs.Candidates.{labelOf}
 use Rattle.numbered.specs.declared.Sizes.{Sizes}
 use Rattle.numbered.proofs.Members.{choice-known}
-use Rattle.numbered.proofs.Numbers.{next-inside, abstract-inside}
+use Rattle.numbered.proofs.Numbers.{next-inside}
 use Rattle.shown.specs.Shown.{Going}
 use Rattle.shown.proofs.Acts.{marked, record-is}
-
--- A process at its start.
-pub going-begins : {P : Policy} {q : Question} {t : List ℕ} → Good P → Tabled P q t → (begin : List ℕ) (u g : ℕ) → Going P q t (sizesOf P) begin (started u g) (abstract P (Real.start u g begin))
-going-begins {P} good tabled begin u g = record {
-  sizes = refl;
-  tabled = tabled;
-  inside = abstract-inside P good (Real.start u g begin) refl;
-  stands = ap (abstract P) (started-is P begin u g);
-}
-
--- The entry in force in a real state is that in what it stands for.
-module _ (P : Policy) (good : Good P) (σ : Real.State) (known : Known P (σ .special)) where
-  role-known : Real.role P σ < length (P .roles)
-  unfolding Real.role
-  role-known = inForce-known P good (σ .special) _ _ known (roleOf-known P good USER (σ .uid)) (roleOf-known P good GROUP (σ .gid))
-
-  entry-same : entry P (abstract P σ) ≡ Real.entry P σ
-  unfolding entry Real.entry role Real.role abstract
-  entry-same = entryIn-abstract P good (Real.role P σ) role-known (σ .file)
 
 module _ {P : Policy} {q : Question} {t : List ℕ} {z : Sizes} {begin : List ℕ} {p : Process} {α : State} (good : Good P) (going : Going P q t z begin p α) where
   pub user-is : roleOf P USER (p .uid) ≡ α .user

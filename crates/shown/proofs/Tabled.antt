@@ -16,13 +16,14 @@ use Rattle.gran.specs.Abstract.{role, executed}
 use Rattle.gran.specs.Reach.{Question}
 use Rattle.gran.specs.declared.State.{State}
 use Rattle.lookup.specs.Lookup.{entryAt, InForce, Placed}
+use Rattle.lookup.proofs.Matches.{good-entry}
 use Rattle.tables.specs.Tables.{Tabled, cell, specialCell, userCell, groupCell, subjectCell, defaultCell, forceCell, objectCell}
 use Rattle.numbered.specs.Number.{Inside, sizesOf, digitsOf, stateNumber, placesOf}
 use Rattle.numbered.specs.declared.Sizes.{Sizes}
 use Rattle.numbered.specs.declared.Digits.{Digits}
 use Rattle.numbered.proofs.Places.{same-place}
 use Rattle.numbered.proofs.Numbers.{special-at, user-at, group-at, subject-at, digits-places, role-known}
-use Rattle.numbered.proofs.Objects.{objects-length, entry-good}
+use Rattle.numbered.proofs.Objects.{objects-length}
 use Rattle.shown.specs.Shown.{seenOf}
 use Rattle.shown.specs.declared.Seen.{Seen}
 
@@ -58,4 +59,4 @@ module _ (P : Policy) (q : Question) (t : List ℕ) (good : Good P) (tabled : Ta
     file-is =
         let objects = objectsOf (entryAt P e) in
         let placed : Placed P e (pathAt (P .paths) (α .subject)) (cell t (objectCell (placesOf P α .subject) e)) = rw (subject-at P α inside .is) at (tabled .object _ e (subject-at P α inside .inside) known) in
-        rw (same-place objects (entry-good P good e known .distinct) (cell t (objectCell (placesOf P α .subject) e)) i (omega (arith, objects-length P e, placed .inside)) h, placed .is)
+        rw (same-place objects (good-entry P good e known .distinct) (cell t (objectCell (placesOf P α .subject) e)) i (omega (arith, objects-length P e, placed .inside)) h, placed .is)

@@ -26,28 +26,12 @@ ghost use Rattle.records.specs.Record.{recordOf, stepBytes};
 ghost use Rattle.shown.specs.Shown.{Going, seenOf, execRecord};
 use gran::Process;
 use numbered::Digits;
+use numbered::GROUP_LABEL;
+use numbered::SPECIAL_LABEL;
 use numbered::Sizes;
+use numbered::USER_LABEL;
 use records::Step;
-
-// How steps are marked that execute nothing; below that a mark is the place of the object.
-const SPECIAL: u16 = 96;
-
-const USER: u16 = 97;
-
-const GROUP: u16 = 98;
-
-// Where cells stand in the tables.
-const USER_CELLS: usize = 8;
-
-const GROUP_CELLS: usize = 24;
-
-const SUBJECT_CELLS: usize = 32;
-
-const DEFAULT_CELL: usize = 496;
-
-const FORCE_CELLS: usize = 2048;
-
-const OBJECT_CELLS: usize = 4096;
+use tables::cell;
 
 // The parts of a state, and the place of its subject among the paths of S.
 struct Seen {
@@ -104,9 +88,9 @@ fn seen_at(t: &[u8], z: Sizes, n: usize) -> Seen
     let place = d.subject;
     Seen {
         special: fields::byte(t, d.special),
-        user: fields::byte(t, USER_CELLS + d.user),
-        group: fields::byte(t, GROUP_CELLS + d.group),
-        subject: fields::byte(t, SUBJECT_CELLS + place),
+        user: fields::byte(t, cell::USER + d.user),
+        group: fields::byte(t, cell::GROUP + d.group),
+        subject: fields::byte(t, cell::SUBJECT + place),
         place: place as u8,
     }
 }
@@ -115,9 +99,9 @@ fn seen_at(t: &[u8], z: Sizes, n: usize) -> Seen
 fn entry_at(t: &[u8], a: Seen) -> u8
     ensures { λ r. ⌜ ((P : Policy) (q : Question) (α : State) → Good P → Tabled P q (now (t .entry)) → Inside P α → a ≡ seenOf P α → InForce P (role P α) (pathAt (P .paths) (α .subject)) r) ⌝ }
 {
-    let fallback = fields::byte(t, DEFAULT_CELL);
+    let fallback = fields::byte(t, cell::DEFAULT);
     let role = gran::role_in_force(a.special, a.user, a.group, fallback);
-    fields::byte(t, FORCE_CELLS + (32 * (a.place as usize) + role as usize))
+    fields::byte(t, cell::FORCE + (32 * (a.place as usize) + role as usize))
 }
 
 // The UID that stands for a user role, or for none, in an entry.
@@ -163,7 +147,7 @@ fn gid_after(store: &[u8], entry: u8, kept: u8, role: u8, gid: u32) -> u32
 fn file_for(t: &[u8], entry: u8, place: u8, object: u8, after: Seen) -> u8
     ensures { λ r. ⌜ r ≡ cond (eqb (cell (now (t .entry)) (objectCell (after .place) entry)) place) (after .subject) object ⌝ }
 {
-    let at = OBJECT_CELLS + (64 * (after.place as usize) + entry as usize);
+    let at = cell::OBJECT + (64 * (after.place as usize) + entry as usize);
     if fields::byte(t, at) == place {
         return after.subject;
     }
@@ -204,13 +188,13 @@ pub fn step_shown(
     let before = seen_at(t, z, from);
     let after = seen_at(t, z, to);
     let entry = entry_at(t, before);
-    if label == SPECIAL {
+    if label == SPECIAL_LABEL {
         return Step::special(after.special);
     }
-    if label == USER {
+    if label == USER_LABEL {
         return Step::user(id_for_user(store, entry, after.user));
     }
-    if label == GROUP {
+    if label == GROUP_LABEL {
         return Step::group(id_for_group(store, entry, after.group));
     }
     let place = (label % 256) as u8;
@@ -238,13 +222,13 @@ pub fn process_after(p: Process, step: Step) -> Process
 pub fn label_length(label: u16) -> usize
     ensures { λ r. ⌜ ((P : Policy) (σ : real.State) (α : State) (a : Act) → Good P → So (may P α a) → label ≡ labelOf P α a → r ≡ length (lineOf (stepBytes (recordOf P σ a)))) ⌝ }
 {
-    if label == SPECIAL {
+    if label == SPECIAL_LABEL {
         return 5;
     }
-    if label == USER {
+    if label == USER_LABEL {
         return 11;
     }
-    if label == GROUP {
+    if label == GROUP_LABEL {
         return 11;
     }
     23

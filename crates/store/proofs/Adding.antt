@@ -243,7 +243,7 @@ module _ (P : Policy) (rest : List ℕ) (t : Tally) (bytes : List ℕ) (h : Hold
         let count : paste (tableOf 768 (entryRows 0 (idsAt P) (P .entries))) ((t .entries - 1) * 12 + 7) ((t .last .objects + 1) % 256 ∷ []) 1 ≡ tableOf 768 (entryRows 0 (idsAt P) es) =
         rw (h .entries) (entries-changed (addObject o) (idsAt P) (P .entries) 7 ((t .last .objects + 1) % 256) there (omega arith) (λ a i. set-objects a i ((t .last .objects + 1) % 256) o (lastEntry (P .entries)) (mod-eq-of-lt (omega (arith, h .last-objects)) ∙ one))) in
         entries-held es (t .objects + 1) (t .ids) (lastTally (t .last) (t .last .objects + 1) (t .last .uids) (t .last .gids)) _ (t .entries)
-        (h .entries ∙ sym (changed-length (addObject o) (P .entries) there))
+        (h .entries ∙ sym (changed-length (addObject o) (P .entries)))
         (rw (objects, h .objects) (sym (length-append (allObjects (P .entries)) (o ∷ []))))
         (rw ids (h .ids))
         (rw (changed-last (addObject o) (P .entries) there) (record { objects = one; uids = h .last-uids; gids = h .last-gids; users = h .last-users; groups = h .last-groups }))
@@ -269,7 +269,7 @@ module _ (P : Policy) (rest : List ℕ) (t : Tally) (bytes : List ℕ) (h : Hold
         let count : paste (tableOf 768 (entryRows 0 (idsAt P) (P .entries))) ((t .entries - 1) * 12 + k) (v ∷ []) 1 ≡ tableOf 768 (entryRows 0 (idsAt P) es) =
         rw (h .entries) (entries-changed change (idsAt P) (P .entries) k v there l row) in
         entries-held es (t .objects) (t .ids + 1) last _ (t .entries)
-        (h .entries ∙ sym (changed-length change (P .entries) there))
+        (h .entries ∙ sym (changed-length change (P .entries)))
         (rw objects (h .objects))
         (rw (ids, h .ids) (sym (length-append (allIds (P .entries)) (n ∷ []))))
         (rw (changed-last change (P .entries) there) held)

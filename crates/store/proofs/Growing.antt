@@ -3,7 +3,7 @@
 use mathlib.Core.Path.{_≡_, _∙_, refl, ap, sym}
 use mathlib.Core.Bool.{Bool, true, false, cond}
 use mathlib.Core.List.{List, [], _∷_, _++_, map, map-append, append-nil, append-assoc}
-use Prim.Native.Nat.{ℕ, _+_, _-_, _*_, _<_}
+use Prim.Native.Nat.{ℕ, suc, _+_, _-_, _*_, _<_}
 use native.Mathlib.Nat.{not-suc-le-zero, add-zero, add-assoc, zero-add}
 use native.Mathlib.Omega.{arith}
 use lib.ListN.{length, set, length-append}
@@ -11,6 +11,7 @@ use lib.Seq.{paste}
 use Rattle.rows.specs.Rows.{joined, tableOf}
 use Rattle.rows.proofs.Tables.{joined-append, table-append, table-change}
 use Rattle.gran.specs.Lists.{only}
+use Rattle.gran.proofs.Members.{only-append}
 use Rattle.gran.specs.Policy.{Move, Object, Entry, Policy}
 use Rattle.store.specs.Layout.{two, four, moveRow, pool, placeRows, idsOf, entryRow, entryRows, allObjects, allIds}
 use Rattle.store.specs.Held.{lastEntry}
@@ -19,17 +20,11 @@ use Rattle.store.proofs.Entries.{place-rows-length, place-rows-wide, en
 
 -- how many pass a test, after one more
 pub only-more : {A : Type 0} (test : A → Bool) (xs : List A) (x : A) → length (only test (xs ++ (x ∷ []))) ≡ length (only test xs) + cond (test x) 1 0
-only-more test [] x = go (test x)
+only-more test xs x = rw (only-append test xs (x ∷ []), length-append (only test xs)) (go (test x))
   where
-    go : (b : Bool) → length (cond b (x ∷ []) []) ≡ 0 + cond b 1 0
+    go : (b : Bool) → length (only test xs) + length (cond b (x ∷ []) []) ≡ length (only test xs) + cond b 1 0
     go true = refl
     go false = refl
-only-more test (y ∷ xs) x = go (test y) (only-more test xs x)
-  where
-    go : (b : Bool) → length (only test (xs ++ (x ∷ []))) ≡ length (only test xs) + cond (test x) 1 0 →
-        length (cond b (y ∷ only test (xs ++ (x ∷ []))) (only test (xs ++ (x ∷ [])))) ≡ length (cond b (y ∷ only test xs) (only test xs)) + cond (test x) 1 0
-    go true e = omega (arith, e)
-    go false e = e
 
 -- the place of a path behind the others
 pub place-rows-more : (at : ℕ) (ps : List (List ℕ)) (p : List ℕ) → placeRows at (ps ++ (p ∷ [])) ≡ placeRows at ps ++ ((two (at + length (joined ps)) ++ (length p ∷ [])) ∷ [])
@@ -83,11 +78,14 @@ last-split [] h = absurd (not-suc-le-zero h)
 last-split (e ∷ []) h = ([], refl)
 last-split (e ∷ (f ∷ es)) h = let r = last-split (f ∷ es) (omega arith) in (e ∷ r .0, ap (λ (l : List Entry). e ∷ l) (r .1))
 
--- the last entry is changed: the entries stay as many, and what they list grows by what the last one lists more
-module _ (change : Entry → Entry) (es : List Entry) (h : 0 < length es) where
-  pub changed-length : length (onLast change es) ≡ length es
-  changed-length = let s = last-split es h in rw (s .1, on-last change (s .0), length-append (s .0), length-append (s .0))
+pub changed-length : (change : Entry → Entry) (es : List Entry) → length (onLast change es) ≡ length es
+unfolding onLast
+changed-length change [] = refl
+changed-length change (e ∷ []) = refl
+changed-length change (e ∷ (d ∷ es)) = ap suc (changed-length change (d ∷ es))
 
+-- the last entry is changed: what the entries list grows by what the last one lists more
+module _ (change : Entry → Entry) (es : List Entry) (h : 0 < length es) where
   pub changed-last : lastEntry (onLast change es) ≡ change (lastEntry es)
   changed-last = let s = last-split es h in ap (λ (l : List Entry). lastEntry (onLast change l)) (s .1) ∙ rw (on-last change (s .0)) (last-of (s .0) _)
 

@@ -3,6 +3,5 @@ pub mod Regions
 pub mod Reading
 pub mod Finding
 pub mod Growing
-pub mod Few
 pub mod Holding
 pub mod Adding

@@ -88,9 +88,6 @@ module _ (P : Policy) (h rest bytes : List ℕ) (fits : Fits P) (long : length h
   pub places-lie : Lies bytes 676 288 (tableOf 288 (placeRows 0 (P .paths)))
   places-lie = lies 2 (omega arith)
 
-  pub kept-lie : Lies bytes 964 192 (zeros 192)
-  kept-lie = lies 3 (omega arith)
-
   pub entries-lie : Lies bytes 1156 768 (tableOf 768 (entryRows 0 (idsAt P) (P .entries)))
   entries-lie = lies 4 (omega arith)
 

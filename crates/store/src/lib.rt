@@ -2,6 +2,7 @@
 // Rests on `paths`, `lines`, `rows` and `gran`. What a reader must believe stands in specs/: `layout` (Layout.antt), `Holds` and
 // the tallies (Held.antt), and a policy with one thing more (Grow.antt). The laws in proofs/ serve those who write and read.
 ghost use mathlib.Core.Path.{_≡_};
+ghost use Rattle.store.specs.Layout.{four};
 ghost use Rattle.store.specs.Held.{Bounded, noTally, roleTally, pathTally, moveTally, entryTally, objectTally, uidTally, gidTally};
 
 // What the last entry has so far: objects, listed UIDs and GIDs, user and group mode.
@@ -146,4 +147,16 @@ impl Tally {
         self.last = last;
         self
     }
+}
+
+// An id in four bytes, as rows hold it.
+pub fn id_bytes(id: u32) -> [u8; 4]
+    ensures { λ r. ⌜ r ≡ four id ⌝ }
+{
+    [
+        (id / 16777216 % 256) as u8,
+        (id / 65536 % 256) as u8,
+        (id / 256 % 256) as u8,
+        (id % 256) as u8,
+    ]
 }

@@ -11,11 +11,12 @@ use native.Mathlib.Omega.{arith}
 use borrow.Author.Tests.{ne-eqb}
 use lib.ListN.{length, getD, drop, set, drop-of-length-le}
 use lib.Seq.{drop-cons}
-use Rattle.gran.specs.Lists.{none, only, places}
+use Rattle.gran.specs.Lists.{none, places}
 use Rattle.gran.specs.Policy.{Policy}
 use Rattle.gran.specs.Role.{ofKind, noRole}
 use Rattle.gran.specs.Good.{rolesOf}
 use Rattle.paths.proofs.Bools.{eqb-of}
+use Rattle.gran.proofs.Members.{places-length}
 use Rattle.runs.specs.Steps.{choices}
 use Rattle.store.specs.Held.{Loaded}
 use Rattle.fields.specs.Fields.{roleCount, roleKind}
@@ -44,15 +45,6 @@ module _ {A : Type 0} (test : A → Bool) (d : A) where
       go true e (suc j) h ih = later i x xs ps j (ih j (le-of-suc-le-suc h))
       go false e j h ih = later i x xs ps j (ih j h)
 
-  places-length : (i : ℕ) (xs : List A) → length (places test i xs) ≡ length (only test xs)
-  places-length i [] = refl
-  places-length i (x ∷ xs) = go (test x) (places-length (suc i) xs)
-    where
-      go : (b : Bool) → length (places test (suc i) xs) ≡ length (only test xs)
-          → length (cond b (i ∷ places test (suc i) xs) (places test (suc i) xs)) ≡ length (cond b (x ∷ only test xs) (only test xs))
-      go true e = ap suc e
-      go false e = e
-
   -- The places from i on, where the element there passes and where it does not.
   module _ (i : ℕ) (xs : List A) (h : i < length xs) where
     pub places-here : So (test (getD xs i d)) → places test i (drop i xs) ≡ i ∷ places test (i + 1) (drop (i + 1) xs)
@@ -64,7 +56,7 @@ module _ {A : Type 0} (test : A → Bool) (d : A) where
 module _ (P : Policy) (k : ℕ) where
   pub choices-length : length (choices P k) ≡ suc (length (rolesOf P k))
   unfolding choices
-  choices-length = ap suc (places-length (ofKind k) noRole 0 (P .roles))
+  choices-length = ap suc (places-length (ofKind k) 0 (P .roles))
 
   pub choice-is : (j : ℕ) → j < length (choices P k) → Choice P k (getD (choices P k) j none)
   unfolding choices

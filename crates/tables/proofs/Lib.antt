@@ -1,7 +1,9 @@
 pub mod Front
 pub mod Cells
 pub mod Choices
+pub mod Offers
 pub mod Subjects
+pub mod Own
 pub mod Reaches
 pub mod Grants
 pub mod Parts

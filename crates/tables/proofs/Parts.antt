@@ -1,7 +1,7 @@
 -- A part that is lent from a whole and comes back filled: its cells are the whole's, and all other cells stay.
 -- Assumes nothing.
 use mathlib.Core.Path.{_≡_, refl, sym, ap, _∙_}
-use mathlib.Core.List.{List, [], _∷_, _++_, map, append-assoc, append-nil}
+use mathlib.Core.List.{List, [], _∷_, _++_, map, map-append, append-assoc}
 use Prim.Native.Nat.{ℕ, _+_, _-_, _≤_, _<_, zero-le}
 use native.Mathlib.Decide.{decLt}
 use native.Mathlib.Omega.{arith}
@@ -9,6 +9,7 @@ use borrow.Rule.Slice.PartMut.{midOf, putMid, same-len-mid}
 use lib.ListN.{length, getD, take, drop, length-append, List·getD-append}
 use lib.Seq.{getD-take, getD-drop, getD-append-add, length-take-le, take-at, take-all}
 use Rattle.rows.specs.Rows.{joined}
+use Rattle.rows.proofs.Tables.{joined-append}
 use Rattle.rows.proofs.Parts.{part-length, part-lies, Lies, begin}
 use Rattle.tables.specs.Tables.{cell}
 
@@ -48,18 +49,6 @@ pub record Parts (ps : List (List ℕ)) (sizes : List ℕ) (at whole : ℕ) (t :
   pub is : take at t ≡ joined ps
   pub sized : map length ps ≡ sizes
 
-joined-more : (ps : List (List ℕ)) (new : List ℕ) → joined (ps ++ (new ∷ [])) ≡ joined ps ++ new
-unfolding joined
-joined-more [] new = append-nil new
-joined-more (p ∷ ps) new = ap (λ (l : List ℕ). p ++ l) (joined-more ps new) ∙ sym (append-assoc p (joined ps) new)
-
-sized-more : (ps : List (List ℕ)) (sizes new : List ℕ) (k : ℕ) → map length ps ≡ sizes → length new ≡ k → map length (ps ++ (new ∷ [])) ≡ sizes ++ (k ∷ [])
-sized-more ps sizes new k e size = rw (← e, ← size) (snoc ps)
-  where
-    snoc : (ps : List (List ℕ)) → map length (ps ++ (new ∷ [])) ≡ map length ps ++ (length new ∷ [])
-    snoc [] = refl
-    snoc (p ∷ ps) = ap (λ (l : List ℕ). length p ∷ l) (snoc ps)
-
 pub parts-none : {whole : ℕ} (t : List ℕ) → length t ≡ whole → Parts [] [] 0 whole t
 unfolding joined
 parts-none t long = record { long = long; inside = zero-le; is = refl; sized = refl }
@@ -76,8 +65,8 @@ parts-more {ps} {sizes} {at} {whole} {t} k new p room kept =
       is = ap (take (at + k)) (sym (append-assoc (take at t) new (drop k (drop at t))))
           ∙ take-at (take at t ++ new) (drop k (drop at t)) (at + k) long
           ∙ ap (λ (l : List ℕ). l ++ new) (p .is)
-          ∙ sym (joined-more ps new);
-      sized = sized-more ps sizes new k (p .sized) size;
+          ∙ sym (joined-append ps new);
+      sized = map-append length ps (new ∷ []) ∙ rw (p .sized, size);
     }
 
 pub parts-all : {ps : List (List ℕ)} {sizes : List ℕ} {whole : ℕ} {t : List ℕ} → Parts ps sizes whole whole t → t ≡ joined ps

@@ -1,50 +1,25 @@
--- Whether allowed ids reach a role, by cases, as code decides it: none by the free id, a role by its own id.
+-- Allowed ids reach a role where they have its own id; the roles of a kind are few, and each has its own.
 -- Assumes nothing.
 use mathlib.Core.Path.{_≡_, refl, sym, _∙_}
-use mathlib.Core.Logic.{_⊎_, inl, inr}
-use mathlib.Core.Bool.{Bool, true, false, not, cond, _&&_, So, false≢true, and-true}
+use mathlib.Core.Logic.{inl, inr}
+use mathlib.Core.Bool.{Bool, true, false, cond, _&&_, So, false≢true, and-true}
 use mathlib.Core.List.{List, [], _∷_, map}
-use Prim.Native.Nat.{ℕ, zero, suc, _+_, _<_}
+use Prim.Native.Nat.{ℕ, zero, suc, _+_, _≤_, _<_}
 use native.Mathlib.Nat.{not-suc-le-zero, le-of-suc-le-suc}
 use native.Mathlib.Omega.{arith}
 use lib.Dec.{eqb}
 use lib.ListN.{length, getD}
-use Rattle.paths.proofs.Bools.{to-false, decide, left, eqb-of, eqb-to}
+use Rattle.paths.proofs.Bools.{to-false, eqb-of, eqb-to}
 use Rattle.gran.specs.Lists.{none, All, Distinct, only, place}
-use Rattle.gran.specs.Policy.{Policy, Allowed, noId}
-use Rattle.gran.specs.Role.{ofKind, noRole, roleOf, allowedBy, allows}
+use Rattle.gran.specs.Policy.{Policy, Allowed}
+use Rattle.gran.specs.Role.{ofKind, noRole, roleOf, allows}
 use Rattle.gran.specs.Good.{Good, rolesOf}
 use Rattle.gran.specs.Good as good
-use Rattle.gran.specs.Abstract.{isFree, freeId, idFor, reaches}
-use Rattle.gran.proofs.Policies.{freeId-free}
-use Rattle.gran.proofs.Free.{freeId-none}
+use Rattle.gran.specs.Abstract.{idFor, reaches}
 use Rattle.store.specs.Held.{Loaded}
 use Rattle.fields.specs.Fields.{roleId}
 use Rattle.fields.proofs.Roles.{role-id}
 use Rattle.tables.specs.Regions.{Named, Choice}
-
-module _ (P : Policy) (k : ℕ) (a : Allowed) where
-  nobody : allows a noId ≡ false
-  unfolding allows allowedBy
-  nobody = refl
-
-  free-is : isFree P k a (freeId P k a) ≡ not (eqb (freeId P k a) noId)
-  free-is = go (decide (isFree P k a (freeId P k a)))
-    where
-      n : ℕ
-      n = freeId P k a
-
-      go : So (isFree P k a n) ⊎ (isFree P k a n ≡ false) → isFree P k a n ≡ not (eqb n noId)
-      go (inl t) =
-          let other : eqb n noId ≡ false = to-false (eqb n noId) (λ e. false≢true (sym nobody ∙ rw (eqb-to n noId e) at (left (allows a n) _ t))) in
-          rw (t, other)
-      go (inr f) =
-          let e : n ≡ noId = freeId-none P k a (λ m. to-false (isFree P k a m) (λ t. false≢true (sym f ∙ freeId-free P k a m t))) in
-          f ∙ rw (eqb-of e)
-
-  pub reaches-none : reaches P k a none ≡ not (eqb (freeId P k a) noId)
-  unfolding reaches idFor
-  reaches-none = free-is
 
 -- The place of the one that passes and has a key, where keys are distinct among those that pass.
 module _ {A : Type 0} (test : A → Bool) (key : A → ℕ) (d : A) where
@@ -89,6 +64,10 @@ module _ (P : Policy) (k : ℕ) (a : Allowed) (r : ℕ) (h : r < length (P .role
       rw (some, own-role dis, eqb-of {m = r} refl) (and-true (allows a (getD (P .roles) r noRole .id)))
 
 -- ---- in a loaded store
+
+pub few-roles : {P : Policy} → Good P → (k : ℕ) → Named k → length (rolesOf P k) ≤ 15
+few-roles good k (inl e) = rw e (good .few-users)
+few-roles good k (inr e) = rw e (omega (arith, good .few-groups))
 
 distinct-ids : {P : Policy} → Good P → (k : ℕ) → Named k → Distinct (map good.roleId (rolesOf P k))
 distinct-ids good k (inl e) = rw e (good .users-distinct)

@@ -13,6 +13,7 @@ use Rattle.gran.specs.Policy.{Policy, USER, GROUP, SPECIAL}
 use Rattle.gran.specs.Match.{pathsOfS}
 use Rattle.gran.specs.Role.{defaultRole}
 use Rattle.gran.specs.Reach.{Question}
+use Rattle.gran.proofs.Counting.{few-subjects}
 use Rattle.runs.specs.Steps.{choices}
 use Rattle.store.specs.Held.{Loaded}
 use Rattle.fields.specs.Fields.{roleCount, entryCount, pathCount, subjectCount}
@@ -22,7 +23,6 @@ use Rattle.tables.specs.Tables.{cell, isSet, subjectPathAt, Tabled}
 use Rattle.tables.specs.Regions.{holds, Front, Region, Stands, Grants, offers, rowsFor, Offers, Lists, Tests, Row, RowsFilled}
 use Rattle.tables.proofs.Front.{front-at}
 use Rattle.tables.proofs.Choices.{choices-length}
-use Rattle.tables.proofs.Subjects.{few-subjects}
 use Rattle.tables.proofs.Parts.{Parts, part-is}
 use Rattle.tables.proofs.Rows.{offer-at}
 

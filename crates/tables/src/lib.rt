@@ -2,10 +2,10 @@
 // What a reader must believe stands in specs/Tables.antt: `Tabled`. specs/Regions.antt says what each part is filled with.
 ghost use mathlib.Core.Path.{_≡_};
 ghost use mathlib.Core.List.{List};
-ghost use Prim.Native.Nat.{ℕ, _*_, _≤_, _<_};
+ghost use Prim.Native.Nat.{ℕ, _+_, _*_, _≤_, _<_};
 ghost use lib.Dec.{eqb};
 ghost use lib.ListN.{length, set};
-ghost use Rattle.gran.specs.Lists.{none, place};
+ghost use Rattle.gran.specs.Lists.{place};
 ghost use Rattle.gran.specs.Policy.{Policy, SPECIAL};
 ghost use Rattle.gran.specs.Match.{pathsOfS, isSubject};
 ghost use Rattle.gran.specs.Role.{allows};
@@ -18,12 +18,12 @@ ghost use Rattle.lookup.specs.Lookup.{entryAt, Graded};
 ghost use Rattle.ids.specs.Ids.{allowedOf};
 ghost use Rattle.tables.specs.Tables.{Tabled};
 ghost use Rattle.tables.specs.Regions.{flagOf, Front, Region, Stands, Grants, Named, Choice, Offers, offers, rowsFor, Forces, Places, Lists, Tests, RowFilled, RowsFilled};
+use ids::GROUP;
+use ids::USER;
 
-// Kinds of roles.
-const USER: u8 = 0x75;
+pub mod cell; // cell.rt: where cells stand, for those who read the tables
 
-const GROUP: u8 = 0x67;
-
+// The kind of special roles.
 const SPECIAL: u8 = 0x73;
 
 // Writes `v` at `at`, if there is such a place.
@@ -87,7 +87,7 @@ fn fill_subjects(store: &[u8], part: &mut [u8])
 }
 
 // The place of `c` in the list, or none.
-fn place_in(list: &[u8], c: u8) -> u8
+pub fn place_in(list: &[u8], c: u8) -> u8
     requires { ⌜ length (now list) ≤ 64 ⌝ }
     ensures { λ r. ⌜ r ≡ place (eqb c) 0 (now (list .entry)) ⌝ }
 {
@@ -122,11 +122,15 @@ fn copy(from: &[u8], part: &mut [u8])
     }
 }
 
-// The place among the subjects of the one that path `c` stands for.
+// The place among the subjects of the one that path `c` stands for; a subject stands for itself, and is not matched again.
 fn stand(store: &[u8], subjects: &[u8], c: u8) -> u8
     requires { ⌜ length (now subjects) ≤ 64 ⌝ }
     ensures { λ r. ⌜ ((P : Policy) (rest : List ℕ) → Loaded P rest (now (store .entry)) → Stands (now (subjects .entry)) P c r) ⌝ }
 {
+    let own = place_in(subjects, c);
+    if own != gran::NONE {
+        return own;
+    }
     let g = lookup::grades_for(store, fields::path(store, c));
     place_in(subjects, lookup::subject_of(store, g))
 }
@@ -174,25 +178,13 @@ fn allows_id(store: &[u8], kind: u8, e: u8, id: u32) -> bool
     }
 }
 
-// Whether entry `e` allows an id that has no role of the kind.
-fn allows_free(store: &[u8], kind: u8, e: u8) -> bool
-    requires { ⌜ Named kind ⌝ }
-    ensures { λ r. ⌜ ((P : Policy) (rest : List ℕ) → Loaded P rest (now (store .entry)) → e < length (P .entries) → r ≡ reaches P kind (allowedOf kind (entryAt P e)) none) ⌝ }
-{
-    if kind == USER {
-        ids::free_user(store, e) != gran::NO_ID
-    } else {
-        ids::free_group(store, e) != gran::NO_ID
-    }
-}
-
 // Whether entry `e` allows an id that has the choice, a role of the kind or none.
 fn reach(store: &[u8], kind: u8, e: u8, choice: u8) -> bool
     requires { ⌜ Named kind ⌝ }
     ensures { λ r. ⌜ ((P : Policy) (rest : List ℕ) → Loaded P rest (now (store .entry)) → e < length (P .entries) → Choice P kind choice → r ≡ reaches P kind (allowedOf kind (entryAt P e)) choice) ⌝ }
 {
     if choice == gran::NONE {
-        return allows_free(store, kind, e);
+        return ids::has_free(store, kind, e);
     }
     allows_id(store, kind, e, fields::role_id(store, choice))
 }
@@ -208,6 +200,18 @@ fn offered(store: &[u8], kind: u8, row: u8, choice: u8) -> bool
     reach(store, kind, row, choice)
 }
 
+// Which of the choices a row has, in the cells from `at` on.
+fn fill_offer_row(store: &[u8], kind: u8, row: u8, choices: &[u8], at: usize, part: &mut [u8])
+    requires { ⌜ ((kind ≡ SPECIAL → ⊥) → Named kind) ⌝ }
+    requires { ⌜ (at ≡ row * length (now choices)) × (length (now choices) ≤ 16) ⌝ }
+    ensures { λ _. ⌜ (Region (now (store .entry)) (Offers kind (now (choices .entry))) at (now (part .entry)) → Region (now (store .entry)) (Offers kind (now (choices .entry))) (at + length (now (choices .entry))) (now (part .exit))) ⌝ }
+{
+    for j in 0..choices.len() {
+        let test = offered(store, kind, row, choices[j]);
+        put(part, at + j, flag(test));
+    }
+}
+
 // For each of the rows which of the choices it has.
 fn fill_offers(store: &[u8], kind: u8, rows: u8, choices: &[u8], part: &mut [u8])
     requires { ⌜ ((kind ≡ SPECIAL → ⊥) → Named kind) ⌝ }
@@ -215,13 +219,10 @@ fn fill_offers(store: &[u8], kind: u8, rows: u8, choices: &[u8], part: &mut [u8]
     ensures { λ _. ⌜ Region (now (store .entry)) (Offers kind (now (choices .entry))) (rows * length (now (choices .entry))) (now (part .exit)) ⌝ }
 {
     let width = choices.len();
-    let cells = (rows as usize) * width;
-    let mut i: usize = 0;
-    while i < cells {
-        let row = (i / width) as u8;
-        let test = offered(store, kind, row, choices[i % width]);
-        put(part, i, flag(test));
-        i += 1;
+    let mut at: usize = 0;
+    for row in 0..rows {
+        fill_offer_row(store, kind, row, choices, at, part);
+        at += width;
     }
 }
 

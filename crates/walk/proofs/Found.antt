@@ -10,20 +10,19 @@ use native.Mathlib.Decide.{ℕ-discrete, decLt}
 use native.Mathlib.Numerals.{add-one}
 use lib.ListN.{length, getD, length-append}
 use borrow.Author.Tests.{eq-eqb, ne-eqb}
-use Rattle.gran.specs.Lists.{none}
 use Rattle.gran.specs.Policy.{Policy}
-use Rattle.gran.specs.Abstract.{Act, setSpecial, may, next, access}
+use Rattle.gran.specs.Abstract.{Act, may, next, access}
 use Rattle.gran.specs.Reach.{Question}
 use Rattle.gran.specs.Run.{Unreached}
 use Rattle.gran.specs.declared.State.{State}
 use Rattle.store.specs.Held.{Loaded}
 use Rattle.tables.specs.Tables.{Tabled}
 use Rattle.runs.specs.Steps.{steps}
-use Rattle.runs.specs.Trail.{IsStep, stepAt, to}
+use Rattle.runs.specs.Trail.{IsStep, to}
 use Rattle.runs.specs.Search.{Queued, first, stateAt, parentAt, actAt, trailAt, actsTo, Child, Searched}
-use Rattle.runs.proofs.Lists.{at-mem}
-use Rattle.runs.proofs.Steps.{steps-may}
-use Rattle.runs.proofs.Search.{length-more, state-old, state-new, each-place, begin, seen, fresh, turn, split-step}
+use Rattle.gran.proofs.Lists.{length-more}
+use Rattle.runs.proofs.Trails.{stepAt-may}
+use Rattle.runs.proofs.Search.{state-old, state-new, each-place, begin, seen, fresh, turn, split-step}
 use Rattle.runs.proofs.Answer.{actsTo-start, actsTo-step, never-answer, shown-answer}
 use Rattle.numbered.specs.Number.{allStates, Inside, sizesOf, stateNumber}
 use Rattle.numbered.specs.Candidates.{Step, labelOf, stepOf, goalAt, candidates}
@@ -41,8 +40,7 @@ use Rattle.walk.proofs.Recording.{Known, Stored, stored-none, other, en
 -- ---- one step
 
 step-may : (P : Policy) (β : State) (i : ℕ) (a : Act) → IsStep P β i a → So (may P β a)
-unfolding stepAt
-step-may P β i a step = rw (← (step .is)) (steps-may P β _ (at-mem (setSpecial none) (steps P β) i (step .within)))
+step-may P β i a step = rw (← (step .is)) (stepAt-may P β i (step .within))
 
 -- A state's number stands for a state.
 number-state : (P : Policy) (β : State) → Inside P β → stateNumber P β < allStates (sizesOf P)
@@ -98,9 +96,6 @@ module _ (P : Policy) (rest s : List ℕ) (q : Question) (t : List ℕ) (loaded 
   few : allStates (sizesOf P) ≤ 8192
   few = sized P (loaded .good) .few
 
-  small : (β : State) → Inside P β → stateNumber P β < 8192
-  small β inside = number-lt P (loaded .good) β inside
-
   -- The memory records what the search has found, and of that only the last can have the access.
   record Stands (w : Walk) (found : List Queued) (p i : ℕ) : Type 0 where
     searched : Searched P α found p i
@@ -139,7 +134,7 @@ module _ (P : Policy) (rest s : List ℕ) (q : Question) (t : List ℕ) (loaded 
   -- One step: its state is new, or was found before.
   module _ (w : Walk) (p : ℕ) (β : State) (i : ℕ) (g : At w p β i) (a : Act) (step : IsStep P β i a) where
     visit-at : At (visit goal p (labelOf P β a) (stateNumber P (next β a)) w) p β (suc i) ⊎ Over (visit goal p (labelOf P β a) (stateNumber P (next β a)) w)
-    unfolding granted few small
+    unfolding granted few
     visit-at = go (ℕ-discrete (mark (w .area) n₁) 0)
       where
         c : ℕ
@@ -177,7 +172,7 @@ module _ (P : Policy) (rest s : List ℕ) (q : Question) (t : List ℕ) (loaded 
           searched = fresh P α found p i (st .searched) (g .here) a step₁ β₁ leads
               (λ k h eq. other P few goal w found (st .stored) e c (number-state P β₁ inside₁) m k h (ap (stateNumber P) eq));
           stored = enter-stored P few goal w found (st .stored) e c (number-state P β₁ inside₁) m
-              (λ k h. small (stateAt found k) (st .inside k h))
+              (λ k h. number-lt P (loaded .good) (stateAt found k) (st .inside k h))
               (λ k pos h. st .searched .children k pos h .earlier)
               (λ pos. (g .here, ap (λ (u : State). labelOf P u a) (sym (g .at))));
           inside = each-place found e (λ k. Inside P (stateAt (found ++ e ∷ []) k)) (λ k h. rw (state-old found e k h) (st .inside k h)) (rw (state-new found e) inside₁);
@@ -204,7 +199,7 @@ module _ (P : Policy) (rest s : List ℕ) (q : Question) (t : List ℕ) (loaded 
         go (no ne) = rw (visit-old goal p c n₁ w (g .unmet) ne) (inl (record {
           found = found;
           stands = record {
-            searched = known ne (st .stored .seen n₁ (small β₁ inside₁));
+            searched = known ne (st .stored .seen n₁ (number-lt P (loaded .good) β₁ inside₁));
             stored = st .stored;
             inside = st .inside;
             others = st .others;
@@ -288,11 +283,11 @@ module _ (P : Policy) (rest s : List ℕ) (q : Question) (t : List ℕ) (loaded 
   module _ (area : List ℕ) (clear : Cleared area) where
     -- A cleared work area, with the start found.
     begun : Between (visit goal 0 0 (stateNumber P α) (empty area)) 0 ⊎ Over (visit goal 0 0 (stateNumber P α) (empty area))
-    unfolding granted few small stateAt
+    unfolding granted few stateAt
     begun = rw (visit-new goal 0 0 (stateNumber P α) (empty area) refl unmarked) (go (goal (stateNumber P α)) refl)
       where
         unmarked : mark area (stateNumber P α) ≡ 0
-        unmarked = clear .unmarked (stateNumber P α) (small α start)
+        unmarked = clear .unmarked (stateNumber P α) (number-lt P (loaded .good) α start)
 
         w : Walk
         w = enter goal 0 0 (stateNumber P α) (empty area)
@@ -331,7 +326,7 @@ module _ (P : Policy) (rest s : List ℕ) (q : Question) (t : List ℕ) (loaded 
       rw n (never-answer P (loaded .good) q α (b .found) (rw n at (b .stands .searched)) (refused w (b .found) (w .count) 0 (b .stands) (b .unmet)))
 
   met-of : (w : Walk) → Over w → Met P q α w
-  unfolding granted small
+  unfolding granted
   met-of w o = record {
     found = found;
     some = omega (arith, rec .count, g .some);
@@ -340,7 +335,7 @@ module _ (P : Policy) (rest s : List ℕ) (q : Question) (t : List ℕ) (loaded 
     rooted = record {
       long = st .stored .kept .long;
       within = omega (arith, rec .count, g .some, size);
-      small = λ j h. let lt : j < length found = omega (arith, rec .count, g .some) in omega (arith, rec .states j lt, small (stateAt found j) (st .inside j lt));
+      small = λ j h. let lt : j < length found = omega (arith, rec .count, g .some) in omega (arith, rec .states j lt, number-lt P (loaded .good) (stateAt found j) (st .inside j lt));
       earlier = λ j pos h. let lt : j < length found = omega (arith, rec .count, g .some) in
           let m : mark (w .area) (getD (w .area) j 0) ≡ suc (parentAt found j) = ap (mark (w .area)) (rec .states j lt) ∙ rec .parents j lt in
           let up : parentAt found j < j = g .children j pos lt .earlier in

@@ -9,6 +9,8 @@ use native.Mathlib.Numerals.{add-one}
 use lib.ListN.{length, getD, set, drop, length-append, length-drop}
 use lib.Seq.{drop-cons, set-at, getD-append-seam}
 use Rattle.gran.specs.Lists.{only, numbers}
+use Rattle.gran.proofs.Members.{at-mem, only-of, only-le, only-append, numbers-of}
+use Rattle.gran.proofs.Counting.{numbers-length}
 use Rattle.numbered.specs.Number.{numberOf}
 use Rattle.numbered.specs.Candidates.{Step, offered, flat, withSubject, inImage, subjectStep, bySubject}
 use Rattle.numbered.specs.declared.Sizes.{Sizes}
@@ -22,38 +24,6 @@ numbers-snoc k zero = let e : k ≡ k + 0 = omega arith in ap (λ (m : ℕ). m �
 numbers-snoc k (suc n) =
     let e : suc k + n ≡ k + suc n = omega arith in
     ap (λ (ms : List ℕ). k ∷ ms) (numbers-snoc (suc k) n ∙ ap (λ (m : ℕ). numbers (suc k) n ++ m ∷ []) e)
-
-module _ (test : ℕ → Bool) where
-  only-append : (xs ys : List ℕ) → only test (xs ++ ys) ≡ only test xs ++ only test ys
-  only-append [] ys = refl
-  only-append (x ∷ xs) ys = go (test x) (only-append xs ys)
-    where
-      go : (b : Bool) → only test (xs ++ ys) ≡ only test xs ++ only test ys → cond b (x ∷ only test (xs ++ ys)) (only test (xs ++ ys)) ≡ cond b (x ∷ only test xs) (only test xs) ++ only test ys
-      go true e = ap (λ (l : List ℕ). x ∷ l) e
-      go false e = e
-
-  only-lt : (k n j : ℕ) → j < length (only test (numbers k n)) → getD (only test (numbers k n)) j 0 < k + n
-  only-lt k zero j h = absurd (omega arith)
-  only-lt k (suc n) j h = go (test k) j h (λ j h. only-lt (suc k) n j h)
-    where
-      rest : List ℕ
-      rest = only test (numbers (suc k) n)
-
-      go : (b : Bool) (j : ℕ) → j < length (cond b (k ∷ rest) rest) → ((j : ℕ) → j < length rest → getD rest j 0 < suc k + n) → getD (cond b (k ∷ rest) rest) j 0 < k + suc n
-      go true zero h below = omega arith
-      go true (suc j) h below = let b : getD rest j 0 < suc k + n = below j (omega arith) in omega arith
-      go false j h below = let b : getD rest j 0 < suc k + n = below j h in omega arith
-
-  only-few : (k n : ℕ) → length (only test (numbers k n)) ≤ n
-  only-few k zero = omega arith
-  only-few k (suc n) = go (test k) (only-few (suc k) n)
-    where
-      rest : List ℕ
-      rest = only test (numbers (suc k) n)
-
-      go : (b : Bool) → length rest ≤ n → length (cond b (k ∷ rest) rest) ≤ suc n
-      go true h = omega arith
-      go false h = omega arith
 
 -- ---- the image
 
@@ -69,11 +39,11 @@ module _ (t : List ℕ) (e i c : ℕ) where
 
   pub image-lt : (n j : ℕ) → j < length (imageOf t e i c n) → getD (imageOf t e i c n) j 0 < n
   unfolding imageOf
-  image-lt n j h = omega (arith, only-lt (inImage t e i c) 0 n j h)
+  image-lt n j h = omega (arith, numbers-of 0 n (only-of (inImage t e i c) (numbers 0 n) (at-mem 0 (imageOf t e i c n) j h) .0))
 
   pub image-few : (n : ℕ) → length (imageOf t e i c n) ≤ n
   unfolding imageOf
-  image-few n = only-few (inImage t e i c) 0 n
+  image-few n = omega (arith, only-le (inImage t e i c) (numbers 0 n), numbers-length 0 n)
 
   -- k subjects were looked at, and n of them written.
   pub record Collected (was is : List ℕ) (n k : ℕ) : Type 0 where

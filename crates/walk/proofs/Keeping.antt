@@ -40,6 +40,16 @@ unfolding unmarked
 unmarked-same a b zero h = refl
 unmarked-same a b (suc n) h = rw (h n (omega arith), unmarked-same a b n (λ m lt. h m (omega arith)))
 
+-- Where no number from m on has a mark, each of these counts.
+unmarked-from : (area : List ℕ) (m end : ℕ) → m ≤ end → ((n : ℕ) → m ≤ n → n < end → mark area n ≡ 0) → unmarked area end + m ≡ unmarked area m + end
+unfolding unmarked
+unmarked-from area m zero h none = let z : m ≡ 0 = omega arith in rw z
+unmarked-from area m (suc end) h none = go (ℕ-discrete m (suc end)) (λ le. unmarked-from area m end le (λ n l b. none n l (omega arith)))
+  where
+    go : Dec (m ≡ suc end) → (m ≤ end → unmarked area end + m ≡ unmarked area m + end) → cond (eqb (mark area end) 0) 1 0 + unmarked area end + m ≡ unmarked area m + suc end
+    go (yes e) below = rw e
+    go (no ne) below = rw (eq-eqb (mark area end) 0 (none end (omega arith) (omega arith))) (omega (arith, below (omega arith)))
+
 -- A mark more is one less without.
 module _ (a b : List ℕ) (n : ℕ) (was : mark a n ≡ 0) (is : mark b n ≡ 0 → ⊥) where
   unmarked-less : (end : ℕ) → n < end → ((m : ℕ) → m < end → (m ≡ n → ⊥) → mark b m ≡ mark a m) → suc (unmarked b end) ≡ unmarked a end
@@ -62,6 +72,7 @@ module _ (z : Sizes) where
     long = clear .long;
     states = λ k h. absurd (omega arith);
     each = omega (arith, unmarked-all area 8192 (clear .unmarked));
+    beyond = λ n le. clear .unmarked n;
   }
 
   -- There is room for a state that was not found yet.
@@ -70,6 +81,14 @@ module _ (z : Sizes) where
 
   pub kept-count : {w : Walk} → Kept z w → w .count ≤ 8192
   kept-count kept = omega (arith, kept .each)
+
+  -- While a state has no mark, fewer were found than there are.
+  pub kept-below : (few : allStates z ≤ 8192) {w : Walk} → Kept z w → (n : ℕ) → n < allStates z → mark (w .area) n ≡ 0 → w .count < allStates z
+  kept-below few {w} kept n state m = omega (arith, kept .each, unmarked-from (w .area) (allStates z) 8192 few (kept .beyond), unmarked-some (w .area) (allStates z) n state m)
+
+  -- Where as many were found as there are states, each state is marked.
+  pub kept-full : (few : allStates z ≤ 8192) {w : Walk} → Kept z w → w .count ≡ allStates z → (n : ℕ) → n < allStates z → mark (w .area) n ≡ 0 → ⊥
+  kept-full few kept all n state m = omega (arith, kept-below few kept n state m)
 
   module _ (few : allStates z ≤ 8192) (goal : ℕ → Bool) (p c n : ℕ) (state : n < allStates z) {w : Walk} (kept : Kept z w) where
     small : n < 8192
@@ -87,6 +106,7 @@ module _ (z : Sizes) where
               unmarked-less (w .area) (enter goal p c n w .area) n m (λ e. omega (arith, mark-new (w .area) (w .count) p c n (kept .long) room small)) 8192 small
               (mark-stays (w .area) (w .count) p c n (kept .long) room small) in
               omega (arith, kept .each, less);
+          beyond = λ m le lt. mark-stays (w .area) (w .count) p c n (kept .long) room small m lt (omega (arith, state)) ∙ kept .beyond m le lt;
         }
       where
         states₁ : w .count < 8192 → (k : ℕ) → k < w .count + 1 → getD (enter goal p c n w .area) k 0 < allStates z

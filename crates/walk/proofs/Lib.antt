@@ -1,9 +1,10 @@
-pub mod Cells
 pub mod Walks
 pub mod Entering
 pub mod Keeping
+pub mod Full
 pub mod Loops
 pub mod Targets
+pub mod Rests
 pub mod Images
 pub mod Tests
 pub mod Back

@@ -11,7 +11,8 @@ use native.Mathlib.Numerals.{add-one}
 use lib.ListN.{length, getD}
 use Rattle.gran.specs.Policy.{Policy}
 use Rattle.runs.specs.Search.{Queued, stateAt, parentAt, actAt}
-use Rattle.runs.proofs.Search.{length-more, state-old, state-new, parent-old, parent-new, act-old, act-new, each-place}
+use Rattle.gran.proofs.Lists.{length-more}
+use Rattle.runs.proofs.Search.{state-old, state-new, parent-old, parent-new, act-old, act-new, each-place}
 use Rattle.numbered.specs.Number.{allStates, sizesOf, stateNumber}
 use Rattle.numbered.specs.Candidates.{labelOf}
 use Rattle.walk.specs.Walk.{Walk, mark, labelled, Cleared, empty, enter}

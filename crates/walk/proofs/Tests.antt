@@ -15,14 +15,6 @@ use Rattle.numbered.specs.Candidates.{Step, flat, roleAt, entryNumber, userStep
 use Rattle.numbered.specs.declared.Sizes.{Sizes}
 use Rattle.numbered.specs.declared.Digits.{Digits}
 
-pub untrue : (b : Bool) → not b ≡ true → b ≡ false
-untrue true h = sym h
-untrue false h = refl
-
-pub not-untrue : (b : Bool) → not b ≡ false → b ≡ true
-not-untrue true h = refl
-not-untrue false h = sym h
-
 -- A test of a byte that was read.
 pub read : (f : ℕ → Bool) {m n : ℕ} {r b : Bool} → m ≡ n → r ≡ f m → r ≡ b → f n ≡ b
 read f e is h = ap f (sym e) ∙ sym is ∙ h

@@ -1,4 +1,4 @@
--- What the loops of a search require of the memory, the sizes and the digits.
+-- What the loops of a search require of the memory and the sizes.
 -- Assumes nothing.
 use mathlib.Core.Path.{_≡_}
 use mathlib.Core.Bool.{cond}
@@ -8,30 +8,33 @@ use lib.Dec.{eqb}
 use lib.ListN.{length, getD}
 use Rattle.numbered.specs.Number.{allStates, Sized}
 use Rattle.numbered.specs.declared.Sizes.{Sizes}
-use Rattle.numbered.specs.declared.Digits.{Digits}
 use Rattle.walk.specs.declared.Progress.{Progress}
 use Rattle.walk.specs.Walk.{Walk, mark}
 
--- The tables have cells for the digits.
-pub record Celled (d : Digits) : Type 0 where
-  pub user : d .user < 16
-  pub group : d .group < 8
-  pub subject : d .subject < 64
-
 -- The memory: the work area, and the numbers that the code carries.
 abbrev pub walkOf : List ℕ → Progress → Walk
-walkOf area w = record { area = area; count = w .count; met = w .met }
+walkOf area w = record { area = area; count = w .count; met = eqb (w .met) 1 }
 
 -- How many of the first n numbers have no mark.
 unfoldable pub unmarked : List ℕ → ℕ → ℕ
 unmarked area zero = 0
 unmarked area (suc n) = cond (eqb (mark area n) 0) 1 0 + unmarked area n
 
--- The memory of a search: states stand in the queue, as many as there are marks.
+-- The memory of a search: states stand in the queue, as many as there are marks, and only states have marks.
 pub record Kept (z : Sizes) (w : Walk) : Type 0 where
   pub long : length (w .area) ≡ 24576
   pub states : (k : ℕ) → k < w .count → getD (w .area) k 0 < allStates z
   pub each : w .count + unmarked (w .area) 8192 ≡ 8192
+  pub beyond : (n : ℕ) → allStates z ≤ n → n < 8192 → mark (w .area) n ≡ 0
+
+-- Place i of a work area is for none of the numbers from k on, below `all`: no place of the queue, no mark, no label of theirs.
+abbrev pub Apart : ℕ → ℕ → ℕ → Type 0
+Apart k all i = (n : ℕ) → k ≤ n → n < all → (i ≡ n → ⊥) × ((i ≡ 8192 + n → ⊥) × (i ≡ 16384 + n → ⊥))
+
+-- A work area that is zero but for those numbers' places.
+pub record Rest (k all : ℕ) (area : List ℕ) : Type 0 where
+  pub long : length area ≡ 24576
+  pub zero : (i : ℕ) → Apart k all i → getD area i 0 ≡ 0
 
 -- A search is at place p of its queue.
 pub record Going (z : Sizes) (p : ℕ) (w : Walk) : Type 0 where

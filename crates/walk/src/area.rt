@@ -1,18 +1,23 @@
 // A state enters the work area.
+use crate::LABELS;
+use crate::MARKS;
 use crate::Progress;
 use crate::state::is_goal;
 use numbered::Sizes;
 ghost use mathlib.Core.Path.{_≡_};
 ghost use Prim.Native.Nat.{_<_};
+ghost use lib.Dec.{eqb};
 ghost use Rattle.numbered.specs.Number.{allStates};
 ghost use Rattle.numbered.specs.Candidates.{offered, goalAt};
 ghost use Rattle.walk.specs.Walk as spec;
 ghost use Rattle.walk.specs.Needed.{walkOf, Going};
 
-// Where marks and labels begin.
-pub const MARKS: usize = 8192;
-
-const LABELS: usize = 16384;
+// A test as a number: 1 where it holds.
+fn flag(test: bool) -> usize
+    ensures { λ r. ⌜ eqb r 1 ≡ test ⌝ }
+{
+    if test { 1 } else { 0 }
+}
 
 // A step labelled `c` from place `p` of the queue to state `n`: a state that was not found yet enters the queue.
 pub fn visit(
@@ -29,7 +34,7 @@ pub fn visit(
 {
     let count = w.count;
     let met = w.met;
-    if met {
+    if met == 1 {
         return w;
     }
     let at = MARKS + n;
@@ -42,9 +47,10 @@ pub fn visit(
     area[name] = c;
     let more = count + 1;
     let goal = is_goal(t, z, n);
+    let last = flag(goal);
     Progress {
         count: more,
-        met: goal,
+        met: last,
     }
 }
 

@@ -2,10 +2,6 @@
 use crate::Exec;
 use crate::Progress;
 use crate::area::visit;
-use crate::state::GROUP_REACH;
-use crate::state::OBJECT;
-use crate::state::STAND;
-use crate::state::USER_REACH;
 use crate::state::is_set;
 use fields::byte;
 use fields::object_count;
@@ -14,6 +10,7 @@ use fields::object_path;
 use gran::Modes;
 use numbered::Digits;
 use numbered::Sizes;
+use tables::cell;
 ghost use mathlib.Core.Path.{_≡_};
 ghost use Prim.Native.Nat.{_≤_, _<_};
 ghost use lib.ListN.{length};
@@ -29,10 +26,10 @@ fn in_image(t: &[u8], x: Exec, k: usize) -> bool
     requires { ⌜ k < 64 ⌝ }
     ensures { λ r. ⌜ r ≡ inImage (now (t .entry)) (x .from) (x .place) (x .path) k ⌝ }
 {
-    if byte(t, OBJECT + (64 * k + x.from as usize)) == x.place {
+    if byte(t, cell::OBJECT + (64 * k + x.from as usize)) == x.place {
         return true;
     }
-    byte(t, STAND + x.path as usize) as usize == k
+    byte(t, cell::STAND + x.path as usize) as usize == k
 }
 
 // The subjects of the object's image, to the front of `out`; how many.
@@ -104,7 +101,7 @@ fn other_group(
     if j == d.group {
         return w;
     }
-    if is_set(t, GROUP_REACH + (8 * (x.from as usize) + j)) {
+    if is_set(t, cell::GROUP_REACH + (8 * (x.from as usize) + j)) {
         let other = Digits {
             special: d.special,
             user: d.user,
@@ -157,7 +154,7 @@ fn other_user(
     if j == d.user {
         return w;
     }
-    if is_set(t, USER_REACH + (16 * (x.from as usize) + j)) {
+    if is_set(t, cell::USER_REACH + (16 * (x.from as usize) + j)) {
         let other = Digits {
             special: d.special,
             user: j,

@@ -6,11 +6,11 @@ mod execs;
 mod state;
 mod steps;
 
-use area::MARKS;
 use area::visit;
 use execs::exec_objects;
 use numbered::Digits;
 use numbered::Sizes;
+use state::all_states;
 use state::entry_at;
 use state::role_at;
 use steps::set_groups;
@@ -24,12 +24,18 @@ ghost use Rattle.numbered.specs.Number.{allStates, Sized};
 ghost use Rattle.numbered.specs.Candidates.{goalAt, candidates};
 ghost use Rattle.walk.specs.Walk as spec;
 ghost use Rattle.walk.specs.Walk.{Cleared, trail, Written};
-ghost use Rattle.walk.specs.Needed.{walkOf, Going, Rooted};
+ghost use Rattle.walk.specs.Needed.{walkOf, Going, Rest, Rooted};
 
-// How many states were found, and whether the last of them has the access, which ends the search.
+// Where marks and labels begin in the work area.
+const MARKS: usize = 8192;
+
+pub const LABELS: usize = 16384;
+
+// How many states were found, and 1 where the last of them has the access, which ends the search. Whole words both: with a bool beside the
+// count, the compiled loops would carry it through memory, in pieces.
 pub struct Progress {
     pub count: usize,
-    pub met: bool,
+    pub met: usize,
 }
 
 // An exec: the entry in force, the object's place in it, and the object's path.
@@ -61,20 +67,22 @@ fn expand(
     exec_objects(area, store, t, z, p, d, entry, w3)
 }
 
-// The search from state `start`, in a cleared work area, until the access is met or every state that can be reached is found.
+// The search from state `start`, in a cleared work area, until the access is met or every state that can be reached is found. Once all
+// states there are were found, no step can change anything: it ends there, and opens no more of them.
 pub fn search(area: &mut [u16], store: &[u8], t: &[u8], z: Sizes, start: usize) -> Progress
     requires { ⌜ Cleared (now area) × (Sized z × (start < allStates z)) ⌝ }
     ensures { λ r. ⌜ walkOf (now (area .exit)) r ≡ spec.search (goalAt (now (t .entry)) z) (candidates (now (store .entry)) (now (t .entry)) z) start (now (area .entry)) ⌝ }
 {
-    let none = Progress {
-        count: 0,
-        met: false,
-    };
+    let none = Progress { count: 0, met: 0 };
+    let all = all_states(z);
     let mut w = visit(area, t, z, 0, 0, start, none);
     let mut p = 0;
     while p < w.count {
         let met = w.met;
-        if met {
+        if met == 1 {
+            return w;
+        }
+        if w.count == all {
             return w;
         }
         let n = area[p] as usize;
@@ -91,6 +99,23 @@ pub fn clear(area: &mut [u16])
     let mut i = 0;
     while i < area.len() {
         area[i] = 0;
+        i += 1;
+    }
+}
+
+// Zero again in every number that a search can have set: where there are few states, far fewer than all.
+pub fn wipe(area: &mut [u16], z: Sizes)
+    requires { ⌜ Sized z × Rest 0 (allStates z) (now area) ⌝ }
+    ensures { λ _. ⌜ now (area .exit) ≡ zeros 24576 ⌝ }
+{
+    let all = all_states(z);
+    let mut i = 0;
+    while i < all {
+        let at = MARKS + i;
+        let name = LABELS + i;
+        area[i] = 0;
+        area[at] = 0;
+        area[name] = 0;
         i += 1;
     }
 }

@@ -1,26 +1,20 @@
 // 81, 82 and 83: the special roles, users and groups that a state may take.
 use crate::Progress;
 use crate::area::offer;
-use crate::state::GROUP_REACH;
-use crate::state::TAKE;
-use crate::state::USER_REACH;
 use crate::state::is_set;
 use fields::entry_caps;
 use gran::Caps;
 use numbered::Digits;
+use numbered::GROUP_LABEL;
+use numbered::SPECIAL_LABEL;
 use numbered::Sizes;
+use numbered::USER_LABEL;
+use tables::cell;
 ghost use mathlib.Core.Path.{_≡_};
 ghost use Rattle.numbered.specs.Number.{Among};
 ghost use Rattle.numbered.specs.Candidates.{goalAt, specialSteps, userSteps, groupSteps};
 ghost use Rattle.walk.specs.Walk as spec;
 ghost use Rattle.walk.specs.Needed.{walkOf, Going};
-
-// The labels of 81, 82 and 83.
-const SPECIAL_LABEL: u16 = 96;
-
-const USER_LABEL: u16 = 97;
-
-const GROUP_LABEL: u16 = 98;
 
 // To each special role that the role in force may take.
 pub fn specials(
@@ -38,7 +32,7 @@ pub fn specials(
     let mut done = w;
     let mut j = 0;
     while j < z.specials {
-        let allowed = is_set(t, TAKE + (8 * (role as usize) + j));
+        let allowed = is_set(t, cell::TAKE + (8 * (role as usize) + j));
         let to = Digits {
             special: j,
             user: d.user,
@@ -75,7 +69,7 @@ pub fn set_users(
     let mut done = w;
     let mut j = 0;
     while j < z.users {
-        let allowed = is_set(t, USER_REACH + (16 * (entry as usize) + j));
+        let allowed = is_set(t, cell::USER_REACH + (16 * (entry as usize) + j));
         let to = Digits {
             special: d.special,
             user: j,
@@ -112,7 +106,7 @@ pub fn set_groups(
     let mut done = w;
     let mut j = 0;
     while j < z.groups {
-        let allowed = is_set(t, GROUP_REACH + (8 * (entry as usize) + j));
+        let allowed = is_set(t, cell::GROUP_REACH + (8 * (entry as usize) + j));
         let to = Digits {
             special: d.special,
             user: d.user,

@@ -2,23 +2,12 @@
 ghost use mathlib.Core.Path.{_≡_};
 ghost use mathlib.Core.List.{[], _∷_, _++_};
 ghost use Prim.Native.Nat.{_%_};
-ghost use Rattle.store.specs.Layout.{two, four, roleRow, entryRow};
+ghost use Rattle.store.specs.Layout.{two, roleRow, entryRow};
 ghost use Rattle.store.specs.Held.{Bounded};
 ghost use Rattle.writing.specs.Added.{headerOf};
 ghost use Rattle.store.specs.Grow.{newEntry};
 use store::Tally;
-
-// An id in four bytes.
-pub fn id_bytes(id: u32) -> [u8; 4]
-    ensures { λ r. ⌜ r ≡ four id ⌝ }
-{
-    [
-        (id / 16777216 % 256) as u8,
-        (id / 65536 % 256) as u8,
-        (id / 256 % 256) as u8,
-        (id % 256) as u8,
-    ]
-}
+use store::id_bytes;
 
 // A role's kind and id, and the bytes that are kept for a name.
 pub fn role_row(kind: u8, id: u32) -> [u8; 22]

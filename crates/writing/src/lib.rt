@@ -10,6 +10,7 @@ ghost use Rattle.store.specs.Held.{Bounded, roleTally, pathTally, moveTally, en
 ghost use Rattle.store.specs.Grow.{newEntry};
 ghost use Rattle.writing.specs.Added.{RoleAdded, PathAdded, MoveAdded, EntryAdded, ObjectAdded, UidAdded, GidAdded, Finished};
 use store::Tally;
+use store::id_bytes;
 
 mod encode;
 
@@ -105,7 +106,7 @@ fn put_id(store: &mut [u8], t: Tally, id: u32, field: usize, count: usize)
     ensures { λ _. ⌜ now (store .exit) ≡ written 1156 768 ((t .entries - 1) * 12 + field) (count % 256 ∷ []) (written 2948 13436 (t .bytes + 2 * t .moves + 4 * t .ids) (four id) (now (store .entry))) ⌝ }
 {
     let used = t.bytes + 2 * t.moves + 4 * t.ids;
-    let row = encode::id_bytes(id);
+    let row = id_bytes(id);
     rows::put_row(&mut store[2948..16384], used, &row);
     let entries = t.entries;
     put_count(store, entries, field, count);

@@ -39,14 +39,34 @@ returns-5 c =
 returns-6 : tie.Need-returns-6
 unfolding early
 returns-6 c =
+    let s = c .before .before .before .before in
     let sizes = c .before .before .before .before .before in
-    rw (le-ltb _ _ (sizes .before .before .if1 .left), le-ltb _ _ (sizes .before .if2 .left), le-ltb _ _ (sizes .if3 .left), ← c .before .before .before .before .good-paths .ensures, c .before .before .before .if4 .left, ← c .before .before .names-nobody .ensures, c .before .if5 .left, lt-ltb _ _ (c .if6 .taken))
+    rw (
+      le-ltb _ _ (sizes .before .before .if1 .left),
+      le-ltb _ _ (sizes .before .if2 .left),
+      le-ltb _ _ (sizes .if3 .left),
+      ← s .good-paths .ensures,
+      c .before .before .before .if4 .left,
+      ← c .before .before .names-nobody .ensures,
+      c .before .if5 .left,
+      lt-ltb _ _ (c .if6 .taken),
+    )
 
 returns-7 : tie.Need-returns-7
 unfolding early
 returns-7 c =
+    let s = c .before .before .before .before in
     let sizes = c .before .before .before .before .before in
-    rw (le-ltb _ _ (sizes .before .before .if1 .left), le-ltb _ _ (sizes .before .if2 .left), le-ltb _ _ (sizes .if3 .left), ← c .before .before .before .before .good-paths .ensures, c .before .before .before .if4 .left, ← c .before .before .names-nobody .ensures, c .before .if5 .left, le-ltb _ _ (c .if6 .left))
+    rw (
+      le-ltb _ _ (sizes .before .before .if1 .left),
+      le-ltb _ _ (sizes .before .if2 .left),
+      le-ltb _ _ (sizes .if3 .left),
+      ← s .good-paths .ensures,
+      c .before .before .before .if4 .left,
+      ← c .before .before .names-nobody .ensures,
+      c .before .if5 .left,
+      le-ltb _ _ (c .if6 .left),
+    )
 
 pub early-spec : {M : Type 1} → statement M
 early-spec =

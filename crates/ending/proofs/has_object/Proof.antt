@@ -61,9 +61,18 @@ add-end : tie.Need-add-end
 add-end c = search needs
 
 returns : tie.Need-returns
-returns c = λ P rest sound h.
-    let within : c .before .before .before .before .before .before .before .before .args .number < length (P .entries) = omega (arith, h .entries) in
-    absurd (omega (arith, c .before .wide3 .ensures .0, c .before .before .before .wide2 .ensures .0, c .before .before .before .before .before .wide .ensures .0, object-count P rest (c .before .before .before .before .before .before .before .before .args .t) (c .before .before .before .before .before .before .before .before .args .store .now) (c .before .before .before .before .before .before .before .before .pre .0) h (c .before .before .before .before .before .before .before .before .args .number) within, object-first P rest (c .before .before .before .before .before .before .before .before .args .t) (c .before .before .before .before .before .before .before .before .args .store .now) (c .before .before .before .before .before .before .before .before .pre .0) h (c .before .before .before .before .before .before .before .before .args .number) within, object-room P rest (c .before .before .before .before .before .before .before .before .args .t) (c .before .before .before .before .before .before .before .before .args .store .now) (c .before .before .before .before .before .before .before .before .pre .0) h (c .before .before .before .before .before .before .before .before .args .number) within))
+returns c P rest sound h =
+    let s = c .before .before .before .before .before .before .before .before in
+    let within : s .args .number < length (P .entries) = omega (arith, h .entries) in
+    absurd (omega (
+      arith,
+      c .before .wide3 .ensures .0,
+      c .before .before .before .wide2 .ensures .0,
+      c .before .before .before .before .before .wide .ensures .0,
+      object-count P rest (s .args .t) (s .args .store .now) (s .pre .0) h (s .args .number) within,
+      object-first P rest (s .args .t) (s .args .store .now) (s .pre .0) h (s .args .number) within,
+      object-room P rest (s .args .t) (s .args .store .now) (s .pre .0) h (s .args .number) within,
+    ))
 
 sub-has-row : tie.Need-sub-has-row
 sub-has-row c = search needs
@@ -81,12 +90,13 @@ has-row-requires : tie.Need-has-row-requires
 has-row-requires c κs = search needs
 
 returns-2 : tie.Need-returns-2
-returns-2 c = λ P rest sound h.
-    let within : c .before .before .before .before .before .before .before .before .before .before .before .args .number < length (P .entries) = omega (arith, h .entries) in
+returns-2 c P rest sound h =
+    let s = c .before .before .before .before .before .before .before .before .before .before .before in
+    let within : s .args .number < length (P .entries) = omega (arith, h .entries) in
     c .has-row .ensures
-    ∙ found-object P rest (c .before .before .before .before .before .before .before .before .before .before .before .args .t) (c .before .before .before .before .before .before .before .before .before .before .before .args .store .now) (c .before .before .before .before .before .before .before .before .before .before .before .pre .0) h (c .before .before .before .before .before .before .before .before .before .before .before .args .number) within (c .before .before .before .before .before .before .before .before .before .before .before .args .path) _ _
-    (omega (arith, c .before .before .before .before .before .before .wide2 .ensures .0, c .before .before .before .before .before .before .before .before .wide .ensures .0, object-first P rest (c .before .before .before .before .before .before .before .before .before .before .before .args .t) (c .before .before .before .before .before .before .before .before .before .before .before .args .store .now) (c .before .before .before .before .before .before .before .before .before .before .before .pre .0) h (c .before .before .before .before .before .before .before .before .before .before .before .args .number) within))
-    (c .before .before .before .before .wide3 .ensures .0 ∙ object-count P rest (c .before .before .before .before .before .before .before .before .before .before .before .args .t) (c .before .before .before .before .before .before .before .before .before .before .before .args .store .now) (c .before .before .before .before .before .before .before .before .before .before .before .pre .0) h (c .before .before .before .before .before .before .before .before .before .before .before .args .number) within)
+    ∙ found-object P rest (s .args .t) (s .args .store .now) (s .pre .0) h (s .args .number) within (s .args .path) _ _
+    (omega (arith, c .before .before .before .before .before .before .wide2 .ensures .0, c .before .before .before .before .before .before .before .before .wide .ensures .0, object-first P rest (s .args .t) (s .args .store .now) (s .pre .0) h (s .args .number) within))
+    (c .before .before .before .before .wide3 .ensures .0 ∙ object-count P rest (s .args .t) (s .args .store .now) (s .pre .0) h (s .args .number) within)
 
 pub has-object-spec : {M : Type 1} → statement M
 has-object-spec =

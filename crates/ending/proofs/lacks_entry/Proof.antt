@@ -4,7 +4,7 @@ use borrow.Author.Needs.{needs}
 use mathlib.Core.Path.{_≡_, _∙_, sym}
 use native.Mathlib.Omega.{arith}
 use lib.ListN.{length}
-use Rattle.ending.specs.End.{Answers}
+use Rattle.judge.specs.Judge.{Answers}
 use Rattle.gran.specs.Policy.{Policy}
 use Prim.Native.Nat.{_+_, _-_, _≤_}
 use mathlib.Core.Bool.{true, false}
@@ -41,9 +41,10 @@ has-entry-requires : tie.Need-has-entry-requires Inv-loop μ-loop
 has-entry-requires c κs = search needs
 
 returns : tie.Need-returns Inv-loop μ-loop
-returns c = λ P rest sound h e.
+returns c P rest sound h e =
     let l = c .before .before .before .loop in
-    sym (l .inv .2 P rest sound h e ∙ number-next (lacksEntry P) (length (P .roles)) (l .i) (omega (arith, h .roles)) true (sym (c .if1 .taken) ∙ lacks-entry P sound (l .i) (c .before .before .before .before .before .before .before .before .args .root) _ e (c .before .has-entry .ensures P rest sound h)))
+    let lacks = lacks-entry P sound (l .i) (c .before .before .before .before .before .before .before .before .args .root) _ e (c .before .has-entry .ensures P rest sound h) in
+    sym (l .inv .2 P rest sound h e ∙ number-next (lacksEntry P) (length (P .roles)) (l .i) (omega (arith, h .roles)) true (sym (c .if1 .taken) ∙ lacks))
 
 add-i : tie.Need-add-i Inv-loop μ-loop
 add-i c = search needs
@@ -55,9 +56,9 @@ loop-again : tie.Need-loop-again Inv-loop μ-loop
 loop-again c = (
   omega arith,
   omega arith,
-  λ P rest sound h e.
-      let l = c .before .before .before .loop in
-      l .inv .2 P rest sound h e ∙ number-next (lacksEntry P) (length (P .roles)) (l .i) (omega (arith, h .roles)) false (sym (c .if1 .left) ∙ lacks-entry P sound (l .i) (c .before .before .before .before .before .before .before .before .args .root) _ e (c .before .has-entry .ensures P rest sound h)),
+  λ P rest sound h e. let l = c .before .before .before .loop in l .inv .2 P rest sound h e
+      ∙ number-next (lacksEntry P) (length (P .roles)) (l .i) (omega (arith, h .roles)) false
+      (sym (c .if1 .left) ∙ lacks-entry P sound (l .i) (c .before .before .before .before .before .before .before .before .args .root) _ e (c .before .has-entry .ensures P rest sound h)),
 )
 
 returns-2 : tie.Need-returns-2 Inv-loop μ-loop

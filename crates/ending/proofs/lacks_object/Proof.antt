@@ -4,7 +4,7 @@ use borrow.Author.Needs.{needs}
 use mathlib.Core.Path.{_≡_, _∙_, refl, sym}
 use native.Mathlib.Omega.{arith}
 use lib.ListN.{length, drop}
-use Rattle.ending.specs.End.{Answers}
+use Rattle.judge.specs.Judge.{Answers}
 use Rattle.gran.specs.Policy.{Policy}
 use Prim.Native.Nat.{_-_, _≤_, _<_}
 use mathlib.Core.Bool.{true, false}
@@ -12,7 +12,8 @@ use Rattle.gran.specs.Lists.{any}
 use Rattle.gran.specs.Match.{noEntry}
 use Rattle.store.specs.Layout.{rootOf}
 use Rattle.policy.specs.Load.{lacksObject}
-use Rattle.ending.proofs.Roots.{any-next, any-end, lacks-object}
+use Rattle.gran.proofs.Lists.{any-next, any-end}
+use Rattle.ending.proofs.Roots.{lacks-object}
 use Rattle.ending.proofs.lacks_object.Statement.{statement}
 use Rattle.ending.proofs.lacks_object.Tie as tie
 
@@ -32,7 +33,7 @@ returns : tie.Need-returns Inv-loop μ-loop
 returns c = λ P rest sound h e.
     let l = c .before .before .before .before .loop in
     let within : l .i < length (P .entries) = omega (arith, h .entries) in
-    sym (l .inv .1 P rest sound h e ∙ any-next (lacksObject P) (P .entries) noEntry (l .i) within true (sym (c .if2 .taken) ∙ lacks-object P sound (l .i) within (c .before .before .before .before .before .before .args .root) _ e (c .before .has-object .ensures P rest sound h)))
+    sym (l .inv .1 P rest sound h e ∙ any-next (lacksObject P) (P .entries) (l .i) noEntry within true (sym (c .if2 .taken) ∙ lacks-object P sound (l .i) within (c .before .before .before .before .before .before .args .root) _ e (c .before .has-object .ensures P rest sound h)))
 
 add-i : tie.Need-add-i Inv-loop μ-loop
 add-i c = search needs
@@ -46,7 +47,7 @@ loop-again c = (
   λ P rest sound h e.
       let l = c .before .before .before .before .loop in
       let within : l .i < length (P .entries) = omega (arith, h .entries) in
-      l .inv .1 P rest sound h e ∙ any-next (lacksObject P) (P .entries) noEntry (l .i) within false (sym (c .if2 .left) ∙ lacks-object P sound (l .i) within (c .before .before .before .before .before .before .args .root) _ e (c .before .has-object .ensures P rest sound h)),
+      l .inv .1 P rest sound h e ∙ any-next (lacksObject P) (P .entries) (l .i) noEntry within false (sym (c .if2 .left) ∙ lacks-object P sound (l .i) within (c .before .before .before .before .before .before .args .root) _ e (c .before .has-object .ensures P rest sound h)),
 )
 
 returns-2 : tie.Need-returns-2 Inv-loop μ-loop

@@ -4,7 +4,7 @@ use borrow.Author.Needs.{needs}
 use mathlib.Core.Path.{_≡_, _∙_, refl, sym}
 use native.Mathlib.Omega.{arith}
 use lib.ListN.{length, drop}
-use Rattle.ending.specs.End.{Answers}
+use Rattle.judge.specs.Judge.{Answers}
 use Rattle.gran.specs.Policy.{Policy}
 use Prim.Native.Nat.{_-_, _≤_, _<_}
 use mathlib.Core.Bool.{true, false}
@@ -43,10 +43,12 @@ cast-result : tie.Need-cast-result Inv-loop μ-loop
 cast-result c = search needs
 
 returns : tie.Need-returns Inv-loop μ-loop
-returns c = λ P rest sound h.
+returns c P rest sound h =
+    let s = c .before .before .before .before .before in
     let l = c .before .before .before .before .loop in
     let within : l .i < length (P .paths) = omega (arith, h .paths) in
-    sym (l .inv .1 P rest sound h ∙ place-next isSlash (P .paths) [] (l .i) within true (sym (slash-read P rest (c .before .before .before .before .before .args .t) (c .before .before .before .before .before .args .store .now) (c .before .before .before .before .before .pre .0) h sound (l .i) within ∙ eq-eqb _ _ (c .if2 .taken))))
+    sym
+    (l .inv .1 P rest sound h ∙ place-next isSlash (P .paths) [] (l .i) within true (sym (slash-read P rest (s .args .t) (s .args .store .now) (s .pre .0) h sound (l .i) within ∙ eq-eqb _ _ (c .if2 .taken))))
 
 add-i : tie.Need-add-i Inv-loop μ-loop
 add-i c = search needs
@@ -55,13 +57,12 @@ loop-less : tie.Need-loop-less Inv-loop μ-loop
 loop-less c = search needs
 
 loop-again : tie.Need-loop-again Inv-loop μ-loop
-loop-again c = (
-  omega arith,
-  λ P rest sound h.
-      let l = c .before .before .before .before .loop in
-      let within : l .i < length (P .paths) = omega (arith, h .paths) in
-      l .inv .1 P rest sound h ∙ place-next isSlash (P .paths) [] (l .i) within false (sym (slash-read P rest (c .before .before .before .before .before .args .t) (c .before .before .before .before .before .args .store .now) (c .before .before .before .before .before .pre .0) h sound (l .i) within ∙ ne-eqb _ _ (c .if2 .left))),
-)
+loop-again c =
+    let s = c .before .before .before .before .before in (
+      omega arith,
+      λ P rest sound h. let l = c .before .before .before .before .loop in let within : l .i < length (P .paths) = omega (arith, h .paths) in l .inv .1 P rest sound h
+          ∙ place-next isSlash (P .paths) [] (l .i) within false (sym (slash-read P rest (s .args .t) (s .args .store .now) (s .pre .0) h sound (l .i) within ∙ ne-eqb _ _ (c .if2 .left))),
+    )
 
 returns-2 : tie.Need-returns-2 Inv-loop μ-loop
 returns-2 c = λ P rest sound h. sym (c .before .before .loop .inv .1 P rest sound h ∙ place-end isSlash (P .paths) (c .before .before .loop .i) (omega (arith, h .paths)))

@@ -41,7 +41,16 @@ returns-6 c = λ P rest bytes h. rw (← c .before .before .byte .ensures, c .be
 
 returns-7 : tie.Need-returns-7
 unfolding isFull
-returns-7 c = λ P rest bytes h. rw (← c .before .byte .ensures, ne-eqb _ _ (c .match .rest .0 .0 .0 .0 .0 .1), ne-eqb _ _ (c .match .rest .0 .0 .0 .0 .1), ne-eqb _ _ (c .match .rest .0 .0 .0 .1), ne-eqb _ _ (c .match .rest .0 .0 .1), ne-eqb _ _ (c .match .rest .0 .1), ne-eqb _ _ (c .match .rest .1))
+returns-7 c P rest bytes h =
+    rw (
+      ← c .before .byte .ensures,
+      ne-eqb _ _ (c .match .rest .0 .0 .0 .0 .0 .1),
+      ne-eqb _ _ (c .match .rest .0 .0 .0 .0 .1),
+      ne-eqb _ _ (c .match .rest .0 .0 .0 .1),
+      ne-eqb _ _ (c .match .rest .0 .0 .1),
+      ne-eqb _ _ (c .match .rest .0 .1),
+      ne-eqb _ _ (c .match .rest .1),
+    )
 
 pub is-full-spec : {M : Type 1} → statement M
 is-full-spec =

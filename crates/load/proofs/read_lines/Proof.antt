@@ -31,7 +31,12 @@ part-read-line-end : tie.Need-part-read-line-end Inv-loop μ-loop
 part-read-line-end c = search needs
 
 read-line-requires : tie.Need-read-line-requires Inv-loop μ-loop
-read-line-requires c κs = let l = c .before .before .before .loop in (can-read (c .before .before .before .before .before .before .before .args .text .now) (drop 16384 (c .before .before .before .before .before .before .before .args .store .now)) (c .before .before .before .loop .store) (c .before .before .before .loop .t) (c .before .before .before .loop .last) (c .before .before .before .loop .line) (c .before .before .before .loop .at) (c .before .before .before .loop .inv .0) (c .before .before .before .before .before .before .before .pre .1 .0), (rw (tail-is (c .before .before .before .before .before .before .before .args .text .now) (l .at), length-drop) (omega arith), l .inv .2))
+read-line-requires c κs =
+    let s = c .before .before .before .before .before .before .before in
+    let l = c .before .before .before .loop in (
+      can-read (s .args .text .now) (drop 16384 (s .args .store .now)) (l .store) (l .t) (l .last) (l .line) (l .at) (l .inv .0) (s .pre .1 .0),
+      (rw (tail-is (s .args .text .now) (l .at), length-drop) (omega arith), l .inv .2),
+    )
 
 add-line : tie.Need-add-line Inv-loop μ-loop
 add-line c = omega (arith, c .before .before .before .before .before .before .loop .inv .0 .count)
@@ -40,44 +45,75 @@ same-length : tie.Need-same-length Inv-loop μ-loop
 same-length c = omega (arith, c .before .before .before .read-line .ensures .kept)
 
 returns : tie.Need-returns Inv-loop μ-loop
-returns c = let r = c .before .before .before .read-line .ensures in
-    let l = c .before .before .before .before .before .before .before .loop in record {
+returns c =
+    let s = c .before .before .before .before .before .before .before .before .before .before .before in
+    let l = c .before .before .before .before .before .before .before .loop in
+    let r = c .before .before .before .read-line .ensures in
+    record {
       kept = r .kept ∙ l .inv .1;
-      past = rw (r .same (c .if1 .taken)) (loading-past (c .before .before .before .before .before .before .before .before .before .before .before .args .text .now) (drop 16384 (c .before .before .before .before .before .before .before .before .before .before .before .args .store .now)) (c .before .before .before .before .before .before .before .loop .store) (c .before .before .before .before .before .before .before .loop .t) (c .before .before .before .before .before .before .before .loop .last) (c .before .before .before .before .before .before .before .loop .line) (c .before .before .before .before .before .before .before .loop .at) (c .before .before .before .before .before .before .before .loop .inv .0));
-      stopped = λ n. loading-stops (c .before .before .before .before .before .before .before .before .before .before .before .args .text .now) (drop 16384 (c .before .before .before .before .before .before .before .before .before .before .before .args .store .now)) (c .before .before .before .before .before .before .before .loop .store) (c .before .before .before .before .before .before .before .loop .t) (c .before .before .before .before .before .before .before .loop .last) (c .before .before .before .before .before .before .before .loop .line) (c .before .before .before .before .before .before .before .loop .at) (c .before .before .before .before .before .before .before .loop .inv .0) (c .before .before .before .before .before .before .loop-test .taken) _ _ _ _ _ (c .before .before .before .read-line .ensures) n;
+      past = rw (r .same (c .if1 .taken)) (loading-past (s .args .text .now) (drop 16384 (s .args .store .now)) (l .store) (l .t) (l .last) (l .line) (l .at) (l .inv .0));
+      stopped = λ n. loading-stops (s .args .text .now) (drop 16384 (s .args .store .now)) (l .store) (l .t) (l .last) (l .line) (l .at) (l .inv .0)
+          (c .before .before .before .before .before .before .loop-test .taken) _ _ _ _ _ (c .before .before .before .read-line .ensures) n;
       whole = λ z. absurd (c .if1 .taken z);
     }
 
 add-at : tie.Need-add-at Inv-loop μ-loop
-add-at c = omega (arith, step-span (c .before .before .before .before .before .before .before .before .before .before .before .before .before .args .text .now) (drop 16384 (c .before .before .before .before .before .before .before .before .before .before .before .before .before .args .store .now)) (c .before .before .before .before .before .before .before .before .before .loop .store) (c .before .before .before .before .before .before .before .before .before .loop .t) (c .before .before .before .before .before .before .before .before .before .loop .last) (c .before .before .before .before .before .before .before .before .before .loop .line) (c .before .before .before .before .before .before .before .before .before .loop .at) (c .before .before .before .before .before .before .before .before .before .loop .inv .0) (c .before .before .before .before .before .before .before .before .loop-test .taken) _ _ _ _ _ (c .before .before .before .before .before .read-line .ensures))
+add-at c =
+    let s = c .before .before .before .before .before .before .before .before .before .before .before .before .before in
+    let l = c .before .before .before .before .before .before .before .before .before .loop in
+    omega (
+      arith,
+      step-span (s .args .text .now) (drop 16384 (s .args .store .now)) (l .store) (l .t) (l .last) (l .line) (l .at) (l .inv .0)
+          (c .before .before .before .before .before .before .before .before .loop-test .taken) _ _ _ _ _ (c .before .before .before .before .before .read-line .ensures),
+    )
 
 loop-less : tie.Need-loop-less Inv-loop μ-loop
-loop-less c = omega (arith, step-span (c .before .before .before .before .before .before .before .before .before .before .before .before .before .args .text .now) (drop 16384 (c .before .before .before .before .before .before .before .before .before .before .before .before .before .args .store .now)) (c .before .before .before .before .before .before .before .before .before .loop .store) (c .before .before .before .before .before .before .before .before .before .loop .t) (c .before .before .before .before .before .before .before .before .before .loop .last) (c .before .before .before .before .before .before .before .before .before .loop .line) (c .before .before .before .before .before .before .before .before .before .loop .at) (c .before .before .before .before .before .before .before .before .before .loop .inv .0) (c .before .before .before .before .before .before .before .before .loop-test .taken) _ _ _ _ _ (c .before .before .before .before .before .read-line .ensures))
+loop-less c =
+    let s = c .before .before .before .before .before .before .before .before .before .before .before .before .before in
+    let l = c .before .before .before .before .before .before .before .before .before .loop in
+    omega (
+      arith,
+      step-span (s .args .text .now) (drop 16384 (s .args .store .now)) (l .store) (l .t) (l .last) (l .line) (l .at) (l .inv .0)
+          (c .before .before .before .before .before .before .before .before .loop-test .taken) _ _ _ _ _ (c .before .before .before .before .before .read-line .ensures),
+    )
 
 loop-again : tie.Need-loop-again Inv-loop μ-loop
-loop-again c = (loading-goes-on (c .before .before .before .before .before .before .before .before .before .before .before .before .before .args .text .now) (drop 16384 (c .before .before .before .before .before .before .before .before .before .before .before .before .before .args .store .now)) (c .before .before .before .before .before .before .before .before .before .loop .store) (c .before .before .before .before .before .before .before .before .before .loop .t) (c .before .before .before .before .before .before .before .before .before .loop .last) (c .before .before .before .before .before .before .before .before .before .loop .line) (c .before .before .before .before .before .before .before .before .before .loop .at) (c .before .before .before .before .before .before .before .before .before .loop .inv .0) (c .before .before .before .before .before .before .before .before .loop-test .taken) _ _ _ _ _ (c .before .before .before .before .before .read-line .ensures) (c .before .before .if1 .left), c .before .before .before .before .before .read-line .ensures .kept ∙ c .before .before .before .before .before .before .before .before .before .loop .inv .1, rw (c .before .before .before .before .before .read-line .ensures .kept) (c .before .before .before .before .before .before .before .before .before .loop .inv .2))
+loop-again c =
+    let s = c .before .before .before .before .before .before .before .before .before .before .before .before .before in
+    let l = c .before .before .before .before .before .before .before .before .before .loop in (
+      loading-goes-on (s .args .text .now) (drop 16384 (s .args .store .now)) (l .store) (l .t) (l .last) (l .line) (l .at) (l .inv .0)
+          (c .before .before .before .before .before .before .before .before .loop-test .taken) _ _ _ _ _ (c .before .before .before .before .before .read-line .ensures) (c .before .before .if1 .left),
+      c .before .before .before .before .before .read-line .ensures .kept ∙ l .inv .1,
+      rw (c .before .before .before .before .before .read-line .ensures .kept) (l .inv .2),
+    )
 
 same-length-2 : tie.Need-same-length-2 Inv-loop μ-loop
 same-length-2 c = search needs
 
 returns-2 : tie.Need-returns-2 Inv-loop μ-loop
-returns-2 c = record {
-  kept = c .before .before .loop .inv .1;
-  past = loading-past (c .before .before .before .before .before .before .args .text .now) (drop 16384 (c .before .before .before .before .before .before .args .store .now)) (c .before .before .loop .store) (c .before .before .loop .t) (c .before .before .loop .last) (c .before .before .loop .line) (c .before .before .loop .at) (c .before .before .loop .inv .0);
-  stopped = λ n. ends-short (c .before .before .before .before .before .before .args .text .now) (drop 16384 (c .before .before .before .before .before .before .args .store .now)) (c .before .before .loop .store) (c .before .before .loop .t) (c .before .before .loop .last) (c .before .before .loop .line) (c .before .before .loop .at) (c .before .before .loop .inv .0) (c .before .loop-test .left) (c .if2 .taken);
-  whole = λ z. absurd (omega arith);
-}
+returns-2 c =
+    let s = c .before .before .before .before .before .before in
+    let l = c .before .before .loop in
+    record {
+      kept = l .inv .1;
+      past = loading-past (s .args .text .now) (drop 16384 (s .args .store .now)) (l .store) (l .t) (l .last) (l .line) (l .at) (l .inv .0);
+      stopped = λ n. ends-short (s .args .text .now) (drop 16384 (s .args .store .now)) (l .store) (l .t) (l .last) (l .line) (l .at) (l .inv .0) (c .before .loop-test .left) (c .if2 .taken);
+      whole = λ z. absurd (omega arith);
+    }
 
 same-length-3 : tie.Need-same-length-3 Inv-loop μ-loop
 same-length-3 c = search needs
 
 returns-3 : tie.Need-returns-3 Inv-loop μ-loop
-returns-3 c = record {
-  kept = c .before .before .loop .inv .1;
-  past = loading-past (c .before .before .before .before .before .before .args .text .now) (drop 16384 (c .before .before .before .before .before .before .args .store .now)) (c .before .before .loop .store) (c .before .before .loop .t) (c .before .before .loop .last) (c .before .before .loop .line) (c .before .before .loop .at) (c .before .before .loop .inv .0);
-  stopped = λ n. absurd (n refl);
-  whole = λ z. ends-whole (c .before .before .before .before .before .before .args .text .now) (drop 16384 (c .before .before .before .before .before .before .args .store .now)) (c .before .before .loop .store) (c .before .before .loop .t) (c .before .before .loop .last) (c .before .before .loop .line) (c .before .before .loop .at) (c .before .before .loop .inv .0) (c .before .loop-test .left) (c .if2 .left);
-}
+returns-3 c =
+    let s = c .before .before .before .before .before .before in
+    let l = c .before .before .loop in
+    record {
+      kept = l .inv .1;
+      past = loading-past (s .args .text .now) (drop 16384 (s .args .store .now)) (l .store) (l .t) (l .last) (l .line) (l .at) (l .inv .0);
+      stopped = λ n. absurd (n refl);
+      whole = λ z. ends-whole (s .args .text .now) (drop 16384 (s .args .store .now)) (l .store) (l .t) (l .last) (l .line) (l .at) (l .inv .0) (c .before .loop-test .left) (c .if2 .left);
+    }
 
 pub read-lines-spec : {M : Type 1} → statement M
 read-lines-spec =

@@ -13,15 +13,27 @@ use borrow.Author.Needs.{needs}
 use Rattle.reply.proofs.reached.Statement.{statement}
 use Rattle.reply.proofs.reached.Tie as tie
 
+-- What a search for an ask has come to.
+abbrev Over : tie.Start → Type 0
+Over s = Ended (s .args .store .now) (s .args .t .now) (s .args .area .now) (s .args .z) (s .args .w) (s .args .start)
+
 -- The length of the lines of the run.
-run-is : (c : tie.After-run-length) (g : (let s = c .before .before .before .before .before .before .before .before .before .before .before in Ended (s .args .store .now) (s .args .t .now) (s .args .area .now) (s .args .z) (s .args .w) (s .args .start))) → let s = c .before .before .before .before .before .before .before .before .before .before .before in
+run-is : (c : tie.After-run-length) → let s = c .before .before .before .before .before .before .before .before .before .before .before in (g : Over s) →
     c .run-length .result ≡ length (stepLines (recordsOf (policyIn (s .args .store .now)) (startOf (g .asked)) (runOf g (s .pre .1))))
 unfolding lying-of
 run-is c g = let s = c .before .before .before .before .before .before .before .before .before .before .before in c .run-length .ensures (lying-of g (s .pre .1) (c .before .before .before .trace .ensures)) (startOf (g .asked))
 
 -- The lines fit.
-fits : (c : tie.After-write-run-arg) (g : (let s = c .before .before .before .before .before .before .before .before .before .before .before .before .before .before .before .before .before .before .before in Ended (s .args .store .now) (s .args .t .now) (s .args .area .now) (s .args .z) (s .args .w) (s .args .start))) → let s = c .before .before .before .before .before .before .before .before .before .before .before .before .before .before .before .before .before .before .before in length (linesAfter g (s .pre .1) (c .before .before .before .before .before .before .before .before .before .before .before .trace .result)) ≤ length (s .args .room .now)
-fits c g = let s = c .before .before .before .before .before .before .before .before .before .before .before .before .before .before .before .before .before .before .before in omega (arith, lines-length g (s .pre .1) (c .before .before .before .before .before .before .before .before .before .before .before .trace .ensures) _ (run-is (c .before .before .before .before .before .before .before .before) g), c .before .before .before .before .before .before .before .if1 .left)
+fits : (c : tie.After-write-run-arg) → let s = c .before .before .before .before .before .before .before .before .before .before .before .before .before .before .before .before .before .before .before in (g : Over s) →
+    length (linesAfter g (s .pre .1) (c .before .before .before .before .before .before .before .before .before .before .before .trace .result)) ≤ length (s .args .room .now)
+fits c g =
+    let s = c .before .before .before .before .before .before .before .before .before .before .before .before .before .before .before .before .before .before .before in
+    omega (
+      arith,
+      lines-length g (s .pre .1) (c .before .before .before .before .before .before .before .before .before .before .before .trace .ensures) _
+          (run-is (c .before .before .before .before .before .before .before .before) g),
+      c .before .before .before .before .before .before .before .if1 .left,
+    )
 
 sub-opened : tie.Need-sub-opened
 sub-opened c = let s = c .before .before .before .before .before in omega (arith, s .pre .0 .met (s .pre .1) .some)
@@ -72,8 +84,11 @@ slice-aggregate-write-run c = search needs
 
 write-run-requires : tie.Need-write-run-requires
 write-run-requires c κs =
-    let s = c .before .before .before .before .before .before .before .before .before .before .before .before .before .before .before .before .before .before .before in
-    (writable-of (s .pre .0) (s .pre .1) (c .before .before .before .before .before .before .before .before .before .before .before .trace .ensures) (s .args .room .now) (fits c (s .pre .0)), wrote-none (s .pre .0) (s .pre .1) (c .before .before .before .before .before .before .before .before .before .before .before .trace .ensures) (s .args .room .now) (fits c (s .pre .0)) _ _ (c .before .before .before .before .before .put-summary .ensures))
+    let s = c .before .before .before .before .before .before .before .before .before .before .before .before .before .before .before .before .before .before .before in (
+      writable-of (s .pre .0) (s .pre .1) (c .before .before .before .before .before .before .before .before .before .before .before .trace .ensures) (s .args .room .now) (fits c (s .pre .0)),
+      wrote-none (s .pre .0) (s .pre .1) (c .before .before .before .before .before .before .before .before .before .before .before .trace .ensures) (s .args .room .now) (fits c (s .pre .0)) _ _
+          (c .before .before .before .before .before .put-summary .ensures),
+    )
 
 same-length : tie.Need-same-length
 same-length c = search needs

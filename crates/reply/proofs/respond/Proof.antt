@@ -1,23 +1,16 @@
 -- `respond` meets its contract: the tables, the search, the answer, and a clean work area.
 -- Assumes nothing.
-use mathlib.Core.Path.{_≡_, sym}
-use native.Mathlib.Omega.{arith}
-use lib.ListN.{length}
-use lib.Seq.{length-take-le}
+use mathlib.Core.Path.{ap, _∙_}
+use Rattle.lines.specs.Line.{zeros}
 use Rattle.ask.specs.Ask.{Asked, questionOf}
 use Rattle.reply.proofs.Digits.{ready-sized}
-use Rattle.reply.proofs.Ends.{ready-of, clear-of, clear-all, start-state, kept, ended-of}
+use Rattle.reply.proofs.Ends.{ready-of, clear-of, start-state, rest, ended-of}
 use borrow.Author.Needs.{needs}
 use Rattle.reply.proofs.respond.Statement.{statement}
 use Rattle.reply.proofs.respond.Tie as tie
 
 abbrev asked : tie.Start → Asked
 asked s = record { uid = s .args .uid; gid = s .args .gid; start = s .args .start .now; target = s .args .target .now; kind = s .args .kind }
-
-area-long : (c : tie.After-search) → length (c .search .last .0) ≡ 24576
-area-long c =
-    let r = (ready-of (asked (c .before .before .before .before .before .before .before .before .before .before .before .before .before .before .before .before .before .before .before)) (c .before .before .before .before .before .before .before .before .before .before .before .before .before .before .before .before .before .before .before .pre .0) (c .before .before .before .before .before .before .before .before .before .before .before .fill .ensures _ _ (c .before .before .before .before .before .before .before .before .before .before .before .before .before .before .before .before .before .before .before .pre .0)) (c .before .before .before .before .before .before .before .before .before .sizes .ensures)) in
-    kept (asked (c .before .before .before .before .before .before .before .before .before .before .before .before .before .before .before .before .before .before .before)) r _ (c .before .before .before .before .before .before .before .start-number .ensures) (clear-of (c .before .before .before .before .before .clear .ensures) (c .before .before .before .before .before .before .before .before .before .before .before .before .before .before .before .before .before .before .before .pre .1)) (c .search .ensures) .long
 
 no-tables-requires : tie.Need-no-tables-requires
 no-tables-requires c κs = search needs
@@ -57,16 +50,16 @@ start-requires c κs = search needs
 told-requires : tie.Need-told-requires
 told-requires c κs =
     let r = (ready-of (asked (c .before .before .before .before .before .before .before .before .before .before .before .before .before .before .before .before .before .before .before .before .before .before .before .before .before)) (c .before .before .before .before .before .before .before .before .before .before .before .before .before .before .before .before .before .before .before .before .before .before .before .before .before .pre .0) (c .before .before .before .before .before .before .before .before .before .before .before .before .before .before .before .before .before .fill .ensures _ _ (c .before .before .before .before .before .before .before .before .before .before .before .before .before .before .before .before .before .before .before .before .before .before .before .before .before .pre .0)) (c .before .before .before .before .before .before .before .before .before .before .before .before .before .before .before .sizes .ensures)) in
-    ended-of (asked (c .before .before .before .before .before .before .before .before .before .before .before .before .before .before .before .before .before .before .before .before .before .before .before .before .before)) r _ (c .before .before .before .before .before .before .before .before .before .before .before .before .before .start-number .ensures) (clear-of (c .before .before .before .before .before .before .before .before .before .before .before .clear .ensures) (c .before .before .before .before .before .before .before .before .before .before .before .before .before .before .before .before .before .before .before .before .before .before .before .before .before .pre .1)) (c .before .before .before .before .before .before .search .ensures) _ (c .before .start .ensures)
+    ended-of (asked (c .before .before .before .before .before .before .before .before .before .before .before .before .before .before .before .before .before .before .before .before .before .before .before .before .before)) r _ (c .before .before .before .before .before .before .before .before .before .before .before .before .before .start-number .ensures) (clear-of (c .before .before .before .before .before .before .before .before .before .before .before .clear .ensures) (c .before .before .before .before .before .before .before .before .before .before .before .before .before .before .before .before .before .before .before .before .before .before .before .before .before .pre .1)) (c .before .before .before .before .before .before .search .result) (c .before .before .before .before .before .before .search .ensures) _ (c .before .start .ensures)
 
-slice-relend-prefix-clear : tie.Need-slice-relend-prefix-clear
-slice-relend-prefix-clear c = omega (arith, area-long (c .before .before .before .before .before .before .before .before .before))
-
-slice-aggregate-clear : tie.Need-slice-aggregate-clear
-slice-aggregate-clear c = sym (length-take-le 24576 (c .before .before .before .before .before .before .before .before .before .before .search .last .0) (omega (arith, area-long (c .before .before .before .before .before .before .before .before .before .before))))
-
-clear-requires-2 : tie.Need-clear-requires-2
-clear-requires-2 c κs = search needs
+wipe-requires : tie.Need-wipe-requires
+wipe-requires c κs =
+    let d = c .before .before .before .before .before .before .before .before .before .before in
+    let s = d .before .before .before .before .before .before .before .before .before .before .before .before .before .before .before .before .before .before .before in
+    let a = asked s in
+    let r = ready-of a (s .pre .0) (d .before .before .before .before .before .before .before .before .before .before .before .fill .ensures _ _ (s .pre .0)) (d .before .before .before .before .before .before .before .before .before .sizes .ensures) in
+    let clear = d .before .before .before .before .before .clear .ensures in
+    (ready-sized r, rest a r _ (d .before .before .before .before .before .before .before .start-number .ensures) (clear-of clear (s .pre .1)) (d .search .result) (d .search .ensures) (clear ∙ ap zeros (s .pre .1)))
 
 same-length : tie.Need-same-length
 same-length c = search needs
@@ -83,8 +76,8 @@ returns c =
     let clear = (clear-of (d .before .before .before .before .before .before .before .before .before .before .before .clear .ensures) (d .before .before .before .before .before .before .before .before .before .before .before .before .before .before .before .before .before .before .before .before .before .before .before .before .before .pre .1)) in
     let number = d .before .before .before .before .before .before .before .before .before .before .before .before .before .start-number .ensures in
     record {
-      answers = c .before .before .before .before .before .before .told .ensures (ended-of a r _ number clear (d .before .before .before .before .before .before .search .ensures) _ (d .before .start .ensures));
-      cleared = clear-all (d .before .before .before .before .before .before .search .last .0) 24576 (area-long (d .before .before .before .before .before .before)) (c .before .before .clear2 .ensures);
+      answers = c .before .before .before .before .before .before .told .ensures (ended-of a r _ number clear (d .before .before .before .before .before .before .search .result) (d .before .before .before .before .before .before .search .ensures) _ (d .before .start .ensures));
+      cleared = c .before .before .wipe .ensures;
     }
 
 pub respond-spec : {M : Type 1} → statement M
@@ -103,9 +96,7 @@ respond-spec =
     slice-aggregate-told
     start-requires
     told-requires
-    slice-relend-prefix-clear
-    slice-aggregate-clear
-    clear-requires-2
+    wipe-requires
     same-length
     same-length-2
     returns)

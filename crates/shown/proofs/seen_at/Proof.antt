@@ -4,15 +4,16 @@ use mathlib.Core.Path.{sym, _∙_}
 use mathlib.Core.Bool.{false≢true}
 use native.Mathlib.Omega.{arith}
 use borrow.Author.Tests.{not-true, not-false}
+use Rattle.numbered.specs.Number.{Celled}
+use Rattle.numbered.proofs.Radix.{digits-celled}
 use Rattle.numbered.proofs.Members.{sized}
-use Rattle.shown.proofs.Sizes.{Low, digits-low}
 use Rattle.shown.proofs.Tabled.{seen-is}
 use borrow.Author.Needs.{needs}
 use Rattle.shown.proofs.seen_at.Statement.{statement}
 use Rattle.shown.proofs.seen_at.Tie as tie
 
-low : (c : tie.After-of) → Low (c .of .result)
-low c = rw (c .of .ensures) (digits-low (c .before .before .is-sized .ensures .0 (not-false _ (c .before .if1 .left))) (c .before .before .before .before .args .n))
+low : (c : tie.After-of) → Celled (c .of .result)
+low c = rw (c .of .ensures) (digits-celled (c .before .before .is-sized .ensures .0 (not-false _ (c .before .if1 .left))) (c .before .before .before .before .args .n))
 
 is-sized-requires : tie.Need-is-sized-requires
 is-sized-requires c κs = search needs
@@ -48,7 +49,14 @@ cast-t15 : tie.Need-cast-t15
 cast-t15 c = omega (arith, low (c .before .before .before .before .before .before))
 
 returns-2 : tie.Need-returns-2
-returns-2 c P q α good tabled inside ez en = rw (c .before .before .before .before .before .byte .ensures, c .before .before .before .byte2 .ensures, c .before .byte3 .ensures, c .byte4 .ensures, c .before .before .before .before .before .before .of .ensures) (seen-is P q _ good tabled α inside _ _ ez en)
+returns-2 c P q α good tabled inside ez en =
+    rw (
+      c .before .before .before .before .before .byte .ensures,
+      c .before .before .before .byte2 .ensures,
+      c .before .byte3 .ensures,
+      c .byte4 .ensures,
+      c .before .before .before .before .before .before .of .ensures,
+    ) (seen-is P q _ good tabled α inside _ _ ez en)
 
 pub seen-at-spec : {M : Type 1} → statement M
 seen-at-spec =

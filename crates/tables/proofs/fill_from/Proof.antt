@@ -86,18 +86,20 @@ same-length c = search needs
 
 returns-2 : tie.Need-returns-2
 returns-2 c P rest L listed =
-    let args = c .before .before .before .before .before .before .before .before .before .before .before .before .before .before .before .before .before .before .before .before .before .before .before .args in
+    let s = c .before .before .before .before .before .before .before .before .before .before .before .before .before .before .before .before .before .before .before .before .before .before .before in
+    let args = s .args in
     let a = c .before .before .before .before .before .before .before .before .before .before .before .before .before .before .copy in
     let b = c .before .before .before .before .before .before .before .before .before .before .fill-stands in
     let d = c .before .before .before .before .before .before .fill-tests in
     let e = c .before .before .fill-rows in
-    let one = parts-more 96 (a .last .1 .0) (parts-none (args .t .now) (c .before .before .before .before .before .before .before .before .before .before .before .before .before .before .before .before .before .before .before .before .before .before .before .pre .1)) (omega arith) (a .kept .1 .0) in
+    let one = parts-more 96 (a .last .1 .0) (parts-none (args .t .now) (s .pre .1)) (omega arith) (a .kept .1 .0) in
     let two = parts-more 96 (b .last .1 .1 .0) one (omega arith) (b .kept .1 .1 .0) in
     let three = parts-more 1856 (d .last .1 .1 .1 .1 .0) two (omega arith) (d .kept .1 .1 .1 .1 .0) in
     let four = parts-more 6144 (e .last .1 .1 .0) three (omega arith) (e .kept .1 .1 .0) in
-    let count : 32 + c .before .before .before .before .before .before .before .before .before .before .before .before .before .before .before .before .before .before .subject-count .result - 32 ≡ subjectCount (args .store .now) = omega (arith, c .before .before .before .before .before .before .before .before .before .before .before .before .before .before .before .before .before .before .subject-count .ensures) in
-    let own = ap (λ (n : ℕ). take n (drop 32 (args .lists .now))) count ∙ subjects-are L (args .lists .now) (c .before .before .before .before .before .before .before .before .before .before .before .before .before .before .before .before .before .before .before .before .before .before .before .pre .0) listed in
-    tabled-of L (args .lists .now) (c .before .before .before .before .before .before .before .before .before .before .before .before .before .before .before .before .before .before .before .before .before .before .before .pre .0) listed _ _ _ _ _ _ _ four (a .ensures) own (b .ensures) (d .ensures P rest L listed) (e .ensures)
+    let count : 32 + c .before .before .before .before .before .before .before .before .before .before .before .before .before .before .before .before .before .before .subject-count .result - 32 ≡ subjectCount (args .store .now) =
+    omega (arith, c .before .before .before .before .before .before .before .before .before .before .before .before .before .before .before .before .before .before .subject-count .ensures) in
+    let own = ap (λ (n : ℕ). take n (drop 32 (args .lists .now))) count ∙ subjects-are L (args .lists .now) (s .pre .0) listed in
+    tabled-of L (args .lists .now) (s .pre .0) listed _ _ _ _ _ _ _ four (a .ensures) own (b .ensures) (d .ensures P rest L listed) (e .ensures)
 
 pub fill-from-spec : {M : Type 1} → statement M
 fill-from-spec =

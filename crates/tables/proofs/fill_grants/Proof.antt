@@ -41,12 +41,16 @@ loop-less : tie.Need-loop-less Inv-loop μ-loop
 loop-less c = search needs
 
 loop-again : tie.Need-loop-again Inv-loop μ-loop
-loop-again c = (
-  omega arith,
-  omega (arith, c .before .before .put .kept .0),
-  rw (c .before .before .put .ensures) (region-more (c .before .before .before .before .before .before .before .before .before .before .before .args .store .now) (Grants (c .before .before .before .before .before .before .before .before .before .before .before .args .kind) (c .before .before .before .before .before .before .before .before .before .before .before .args .g .of)) (c .before .before .before .before .before .before .before .loop .e) (c .before .before .before .flag .result) (c .before .before .before .before .before .before .before .loop .part) (c .before .before .before .before .before .before .before .loop .inv .2)
-      (λ P rest L f graded h. rw (c .before .before .before .flag .ensures) (holds-flag (c .before .before .before .before .before .grants-in .result)) ∙ c .before .before .before .before .before .grants-in .ensures P rest f L graded h)),
-)
+loop-again c =
+    let s = c .before .before .before .before .before .before .before .before .before .before .before in
+    let l = c .before .before .before .before .before .before .before .loop in
+    let grants-in = c .before .before .before .before .before .grants-in in
+    let flag = c .before .before .before .flag in (
+      omega arith,
+      omega (arith, c .before .before .put .kept .0),
+      rw (c .before .before .put .ensures)
+          (region-more (s .args .store .now) (Grants (s .args .kind) (s .args .g .of)) (l .e) (flag .result) (l .part) (l .inv .2) (λ P rest L f graded h. rw (flag .ensures) (holds-flag (grants-in .result)) ∙ grants-in .ensures P rest f L graded h)),
+    )
 
 same-length : tie.Need-same-length Inv-loop μ-loop
 same-length c = search needs

@@ -60,11 +60,12 @@ same-length c = search needs
 
 returns : tie.Need-returns
 returns c P rest L =
+    let s = c .before .before .before .before .before .before .before .before .before .before .before .before .before .before .before .before .before .before in
     let a = c .before .before .before .before .before .before .before .before .before .before .before .before .before .before .fill-choices in
     let b = c .before .before .before .before .before .before .before .before .before .before .fill-choices2 in
     let d = c .before .before .before .before .before .before .fill-choices3 in
     let e = c .before .before .fill-subjects in
-    let one = parts-more 8 (a .last .1 .1 .0) (parts-none (c .before .before .before .before .before .before .before .before .before .before .before .before .before .before .before .before .before .before .args .lists .now) (c .before .before .before .before .before .before .before .before .before .before .before .before .before .before .before .before .before .before .pre)) (omega arith) (a .kept .1 .1 .0) in
+    let one = parts-more 8 (a .last .1 .1 .0) (parts-none (s .args .lists .now) (s .pre)) (omega arith) (a .kept .1 .1 .0) in
     let two = parts-more 16 (b .last .1 .1 .0) one (omega arith) (b .kept .1 .1 .0) in
     let three = parts-more 8 (d .last .1 .1 .0) two (omega arith) (d .kept .1 .1 .0) in
     let four = parts-more 64 (e .last .1 .0) three (omega arith) (e .kept .1 .0) in

@@ -38,11 +38,15 @@ loop-less : tie.Need-loop-less Inv-loop μ-loop
 loop-less c = search needs
 
 loop-again : tie.Need-loop-again Inv-loop μ-loop
-loop-again c = (
-  omega arith,
-  omega (arith, c .before .before .put .kept .0),
-  rw (c .before .before .put .ensures) (region-more (c .before .before .before .before .before .before .before .before .before .before .args .store .now) (Places (c .before .before .before .before .before .before .before .before .before .before .args .g .of)) (c .before .before .before .before .before .before .loop .e) (c .before .before .before .before .object-in .result) (c .before .before .before .before .before .before .loop .row) (c .before .before .before .before .before .before .loop .inv .2) (λ P rest L f graded h. c .before .before .before .before .object-in .ensures P rest f L graded h)),
-)
+loop-again c =
+    let s = c .before .before .before .before .before .before .before .before .before .before in
+    let l = c .before .before .before .before .before .before .loop in
+    let object-in = c .before .before .before .before .object-in in (
+      omega arith,
+      omega (arith, c .before .before .put .kept .0),
+      rw (c .before .before .put .ensures)
+          (region-more (s .args .store .now) (Places (s .args .g .of)) (l .e) (object-in .result) (l .row) (l .inv .2) (λ P rest L f graded h. object-in .ensures P rest f L graded h)),
+    )
 
 same-length : tie.Need-same-length Inv-loop μ-loop
 same-length c = search needs

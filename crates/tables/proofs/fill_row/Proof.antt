@@ -62,14 +62,17 @@ same-length c = search needs
 
 returns : tie.Need-returns
 returns c =
-    let args = c .before .before .before .before .before .before .before .before .before .before .before .before .args in
+    let s = c .before .before .before .before .before .before .before .before .before .before .before .before in
+    let args = s .args in
     let g = c .before .before .before .before .before .before .before .before .grades-for .result .of in
-    let graded : (P : Policy) (rest : List ℕ) → Loaded P rest (args .store .now) → Graded P (pathIn (args .store .now) (args .c)) g = λ P rest L. rw (c .before .before .before .before .before .before .before .before .before .path .ensures) at (c .before .before .before .before .before .before .before .before .grades-for .ensures P rest L) in
+    let graded : (P : Policy) (rest : List ℕ) → Loaded P rest (args .store .now) → Graded P (pathIn (args .store .now) (args .c)) g =
+    λ P rest L. rw (c .before .before .before .before .before .before .before .before .before .path .ensures) at
+    (c .before .before .before .before .before .before .before .before .grades-for .ensures P rest L) in
     let at = 32 * args .k in
     let behind = 2048 + 64 * args .k in
-    row-filled (args .k) (at + 32 - at) (behind + 64 - behind) (args .part .now) (c .before .before .before .before .before .before .fill-force .last .1 .1 .0) (c .before .before .fill-places .last .1 .1 .0)
-    (c .before .before .before .before .before .before .before .before .before .before .before .before .pre .0) (c .before .before .before .before .before .before .before .before .before .before .before .before .pre .1) (omega arith) (omega arith) (c .before .before .before .before .before .before .fill-force .kept .1 .1 .0) (c .before .before .fill-places .kept .1 .1 .0)
-    (args .c) g graded (c .before .before .before .before .before .before .fill-force .ensures) (c .before .before .fill-places .ensures)
+    row-filled (args .k) (at + 32 - at) (behind + 64 - behind) (args .part .now) (c .before .before .before .before .before .before .fill-force .last .1 .1 .0)
+    (c .before .before .fill-places .last .1 .1 .0) (s .pre .0) (s .pre .1) (omega arith) (omega arith) (c .before .before .before .before .before .before .fill-force .kept .1 .1 .0)
+    (c .before .before .fill-places .kept .1 .1 .0) (args .c) g graded (c .before .before .before .before .before .before .fill-force .ensures) (c .before .before .fill-places .ensures)
 
 pub fill-row-spec : {M : Type 1} → statement M
 fill-row-spec =

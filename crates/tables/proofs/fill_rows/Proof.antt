@@ -34,11 +34,12 @@ loop-less c = search needs
 
 loop-again : tie.Need-loop-again Inv-loop μ-loop
 loop-again c =
+    let s = c .before .before .before .before .before .before .before .before .before .before in
     let loop = c .before .before .before .before .before .before .loop in (
       omega arith,
       loop .inv .1,
       omega (arith, c .before .before .fill-row .kept .1 .1 .1 .0),
-      rows-more (c .before .before .before .before .before .before .before .before .before .before .args .store .now) (c .before .before .before .before .before .before .before .before .before .before .args .subjects .now) (loop .k) (loop .part) _ (omega arith) (omega arith) (loop .inv .3) (c .before .before .fill-row .ensures),
+      rows-more (s .args .store .now) (s .args .subjects .now) (loop .k) (loop .part) _ (omega arith) (omega arith) (loop .inv .3) (c .before .before .fill-row .ensures),
     )
 
 same-length : tie.Need-same-length Inv-loop μ-loop

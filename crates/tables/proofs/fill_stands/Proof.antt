@@ -38,11 +38,14 @@ loop-less : tie.Need-loop-less Inv-loop μ-loop
 loop-less c = search needs
 
 loop-again : tie.Need-loop-again Inv-loop μ-loop
-loop-again c = (
-  omega arith,
-  omega (arith, c .before .before .put .kept .0),
-  rw (c .before .before .put .ensures) (region-more (c .before .before .before .before .before .before .before .before .before .before .before .args .store .now) (Stands (c .before .before .before .before .before .before .before .before .before .before .before .args .subjects .now)) (c .before .before .before .before .before .before .loop .c) (c .before .before .before .before .stand .result) (c .before .before .before .before .before .before .loop .part) (c .before .before .before .before .before .before .loop .inv .2) (c .before .before .before .before .stand .ensures)),
-)
+loop-again c =
+    let s = c .before .before .before .before .before .before .before .before .before .before .before in
+    let l = c .before .before .before .before .before .before .loop in (
+      omega arith,
+      omega (arith, c .before .before .put .kept .0),
+      rw (c .before .before .put .ensures)
+          (region-more (s .args .store .now) (Stands (s .args .subjects .now)) (l .c) (c .before .before .before .before .stand .result) (l .part) (l .inv .2) (c .before .before .before .before .stand .ensures)),
+    )
 
 same-length : tie.Need-same-length Inv-loop μ-loop
 same-length c = search needs

@@ -54,7 +54,9 @@ part-fill-offers-end-2 : tie.Need-part-fill-offers-end-2
 part-fill-offers-end-2 c = omega arith
 
 fill-offers-requires : tie.Need-fill-offers-requires
-fill-offers-requires c κs = (λ other. absurd (other refl), omega (arith, part-length 0 8 (c .before .before .before .before .before .before .before .before .before .before .before .before .before .before .args .lists .now) (omega (arith, c .before .before .before .before .before .before .before .before .before .before .before .before .before .before .pre .0))))
+fill-offers-requires c κs =
+    let s = c .before .before .before .before .before .before .before .before .before .before .before .before .before .before in
+    (λ other. absurd (other refl), omega (arith, part-length 0 8 (s .args .lists .now) (omega (arith, s .pre .0))))
 
 sub-put : tie.Need-sub-put
 sub-put c = omega arith
@@ -87,7 +89,9 @@ part-fill-offers-end-4 : tie.Need-part-fill-offers-end-4
 part-fill-offers-end-4 c = omega arith
 
 fill-offers-requires-2 : tie.Need-fill-offers-requires-2
-fill-offers-requires-2 c κs = (λ other. inr refl, omega (arith, part-length 24 8 (c .before .before .before .before .before .before .before .before .before .before .before .before .before .before .before .before .before .before .before .before .before .before .before .args .lists .now) (omega (arith, c .before .before .before .before .before .before .before .before .before .before .before .before .before .before .before .before .before .before .before .before .before .before .before .pre .0))))
+fill-offers-requires-2 c κs =
+    let s = c .before .before .before .before .before .before .before .before .before .before .before .before .before .before .before .before .before .before .before .before .before .before .before in
+    (λ other. inr refl, omega (arith, part-length 24 8 (s .args .lists .now) (omega (arith, s .pre .0))))
 
 sub-fill-offers-5 : tie.Need-sub-fill-offers-5
 sub-fill-offers-5 c = omega arith
@@ -105,32 +109,51 @@ part-fill-offers-start-6 : tie.Need-part-fill-offers-start-6
 part-fill-offers-start-6 c = omega arith
 
 part-fill-offers-end-6 : tie.Need-part-fill-offers-end-6
-part-fill-offers-end-6 c = omega (arith, c .before .before .part4 .given, c .before .before .before .before .before .before .before .part3 .given, c .before .before .before .before .before .before .before .before .before .before .before .part2 .given, c .before .before .before .before .before .before .before .before .before .before .before .before .before .before .before .before .part .given, c .before .before .before .before .before .before .before .before .before .before .before .before .before .before .before .before .before .before .before .before .before .before .before .before .before .before .before .pre .1)
+part-fill-offers-end-6 c =
+    omega (
+      arith,
+      c .before .before .part4 .given,
+      c .before .before .before .before .before .before .before .part3 .given,
+      c .before .before .before .before .before .before .before .before .before .before .before .part2 .given,
+      c .before .before .before .before .before .before .before .before .before .before .before .before .before .before .before .before .part .given,
+      c .before .before .before .before .before .before .before .before .before .before .before .before .before .before .before .before .before .before .before .before .before .before .before .before .before .before .before .pre .1,
+    )
 
 fill-offers-requires-3 : tie.Need-fill-offers-requires-3
-fill-offers-requires-3 c κs = (λ other. inl refl, omega (arith, part-length 8 16 (c .before .before .before .before .before .before .before .before .before .before .before .before .before .before .before .before .before .before .before .before .before .before .before .before .before .before .before .before .args .lists .now) (omega (arith, c .before .before .before .before .before .before .before .before .before .before .before .before .before .before .before .before .before .before .before .before .before .before .before .before .before .before .before .before .pre .0))))
+fill-offers-requires-3 c κs =
+    let s = c .before .before .before .before .before .before .before .before .before .before .before .before .before .before .before .before .before .before .before .before .before .before .before .before .before .before .before .before in
+    (λ other. inl refl, omega (arith, part-length 8 16 (s .args .lists .now) (omega (arith, s .pre .0))))
 
 same-length : tie.Need-same-length
 same-length c = search needs
 
 returns : tie.Need-returns
 returns c P rest L listed =
-    let args = c .before .before .before .before .before .before .before .before .before .before .before .before .before .before .before .before .before .before .before .before .before .before .before .before .before .before .before .before .before .before .before .args in
-    let a = c .before .before .before .before .before .before .before .before .before .before .before .before .before .before .before .before .before .before .before .before .before .fill-grants in
+    let s = c .before .before .before .before .before .before .before .before .before .before .before .before .before .before .before .before .before .before .before .before .before .before .before .before .before .before .before .before .before .before .before in
+    let grades-for = c .before .before .before .before .before .before .before .before .before .before .before .before .before .before .before .before .before .before .before .before .before .before .before .before .before .before .grades-for in
+    let args = s .args in
+    let a =
+    c .before .before .before .before .before .before .before .before .before .before .before .before .before .before .before .before .before .before .before .before .before .fill-grants in
     let b = c .before .before .before .before .before .before .before .before .before .before .before .before .before .before .before .before .fill-offers in
     let d = c .before .before .before .before .before .before .before .before .before .before .before .before .put in
     let e = c .before .before .before .before .before .before .before .fill-offers2 in
     let f = c .before .before .fill-offers3 in
-    let one = parts-more 64 (a .last .1 .1 .1 .0) (parts-none (args .part .now) (c .before .before .before .before .before .before .before .before .before .before .before .before .before .before .before .before .before .before .before .before .before .before .before .before .before .before .before .before .before .before .before .pre .1)) (omega arith) (a .kept .1 .1 .1 .0) in
+    let one = parts-more 64 (a .last .1 .1 .1 .0) (parts-none (args .part .now) (s .pre .1)) (omega arith) (a .kept .1 .1 .1 .0) in
     let two = parts-more 240 (b .last .1 .1 .1 .1 .0) one (omega arith) (b .kept .1 .1 .1 .1 .0) in
     let three = parts-more 16 (d .last .0) two (omega arith) (d .kept .0) in
     let four = parts-more 512 (e .last .1 .1 .1 .1 .0) three (omega arith) (e .kept .1 .1 .1 .1 .0) in
     let five = parts-more 1024 (f .last .1 .1 .1 .1 .0) four (omega arith) (f .kept .1 .1 .1 .1 .0) in
     let lent = midOf 304 16 (putMid 64 240 (putMid 0 64 (args .part .now) (a .last .1 .1 .1 .0)) (b .last .1 .1 .1 .1 .0)) in
-    tests-of L (args .lists .now) (c .before .before .before .before .before .before .before .before .before .before .before .before .before .before .before .before .before .before .before .before .before .before .before .before .before .before .before .before .before .before .before .pre .0) listed (args .kind) (c .before .before .before .before .before .before .before .before .before .before .before .before .before .before .before .before .before .before .before .before .before .before .before .before .before .role-count .result) (c .before .before .before .before .before .before .before .before .before .before .before .before .before .before .before .before .before .before .before .before .before .before .before .before .entry-count .result) (c .before .before .before .before .before .before .before .before .before .before .before .before .before .before .before .before .before .before .before .before .before .before .before .default-role .result)
-    (args .target .now) (c .before .before .before .before .before .before .before .before .before .before .before .before .before .before .before .before .before .before .before .before .before .before .before .before .before .before .grades-for .result .of) _ _ lent _ _ _ _ five
-    (c .before .before .before .before .before .before .before .before .before .before .before .before .before .before .before .before .before .before .before .before .before .before .before .before .before .role-count .ensures) (c .before .before .before .before .before .before .before .before .before .before .before .before .before .before .before .before .before .before .before .before .before .before .before .before .entry-count .ensures) (c .before .before .before .before .before .before .before .before .before .before .before .before .before .before .before .before .before .before .before .before .before .before .before .before .before .before .grades-for .ensures P rest L) (c .before .before .before .before .before .before .before .before .before .before .before .before .before .before .before .before .before .before .before .before .before .before .before .default-role .ensures P rest L) (d .ensures)
-    (a .ensures) (b .ensures) (e .ensures) (f .ensures)
+    tests-of L (args .lists .now) (s .pre .0) listed (args .kind)
+    (c .before .before .before .before .before .before .before .before .before .before .before .before .before .before .before .before .before .before .before .before .before .before .before .before .before .role-count .result)
+    (c .before .before .before .before .before .before .before .before .before .before .before .before .before .before .before .before .before .before .before .before .before .before .before .before .entry-count .result)
+    (c .before .before .before .before .before .before .before .before .before .before .before .before .before .before .before .before .before .before .before .before .before .before .before .default-role .result)
+    (args .target .now) (grades-for .result .of) _ _ lent _ _ _ _ five
+    (c .before .before .before .before .before .before .before .before .before .before .before .before .before .before .before .before .before .before .before .before .before .before .before .before .before .role-count .ensures)
+    (c .before .before .before .before .before .before .before .before .before .before .before .before .before .before .before .before .before .before .before .before .before .before .before .before .entry-count .ensures)
+    (grades-for .ensures P rest L)
+    (c .before .before .before .before .before .before .before .before .before .before .before .before .before .before .before .before .before .before .before .before .before .before .before .default-role .ensures P rest L)
+    (d .ensures) (a .ensures) (b .ensures) (e .ensures) (f .ensures)
 
 pub fill-tests-spec : {M : Type 1} → statement M
 fill-tests-spec =

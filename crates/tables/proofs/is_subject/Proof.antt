@@ -31,7 +31,10 @@ entry-subject-requires : tie.Need-entry-subject-requires Inv-loop μ-loop
 entry-subject-requires c κs = search needs
 
 returns : tie.Need-returns Inv-loop μ-loop
-returns c P rest L = sym (is-here L (c .before .before .before .before .before .before .args .c) (c .before .before .before .loop .e) (omega (arith, c .before .before .before .before .entry-count .ensures)) (c .before .before .before .loop .inv .1 P rest L) (c .if1 .taken ∙ c .before .entry-subject .ensures))
+returns c P rest L =
+    let l = c .before .before .before .loop in
+    sym
+    (is-here L (c .before .before .before .before .before .before .args .c) (l .e) (omega (arith, c .before .before .before .before .entry-count .ensures)) (l .inv .1 P rest L) (c .if1 .taken ∙ c .before .entry-subject .ensures))
 
 add-e : tie.Need-add-e Inv-loop μ-loop
 add-e c = search needs
@@ -40,11 +43,12 @@ loop-less : tie.Need-loop-less Inv-loop μ-loop
 loop-less c = search needs
 
 loop-again : tie.Need-loop-again Inv-loop μ-loop
-loop-again c = (
-  omega arith,
-  λ P rest L.
-      is-later L (c .before .before .before .before .before .before .args .c) (c .before .before .before .loop .e) (omega (arith, c .before .before .before .before .entry-count .ensures)) (c .before .before .before .loop .inv .1 P rest L) (λ e. c .if1 .left (e ∙ sym (c .before .entry-subject .ensures))),
-)
+loop-again c =
+    let l = c .before .before .before .loop in (
+      omega arith,
+      λ P rest L. is-later L (c .before .before .before .before .before .before .args .c) (l .e) (omega (arith, c .before .before .before .before .entry-count .ensures)) (l .inv .1 P rest L)
+          (λ e. c .if1 .left (e ∙ sym (c .before .entry-subject .ensures))),
+    )
 
 returns-2 : tie.Need-returns-2 Inv-loop μ-loop
 returns-2 c P rest L = sym (is-not L (c .before .before .before .before .args .c) (c .before .loop .e) (omega (arith, c .before .before .entry-count .ensures)) (c .before .loop .inv .1 P rest L))

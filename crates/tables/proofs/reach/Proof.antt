@@ -4,16 +4,16 @@ use mathlib.Core.Path.{ap, _∙_}
 use Rattle.gran.specs.Role.{allows}
 use Rattle.lookup.specs.Lookup.{entryAt}
 use Rattle.ids.specs.Ids.{allowedOf}
-use Rattle.tables.proofs.Reaches.{own-id}
+use Rattle.tables.proofs.Reaches.{few-roles, own-id}
 use borrow.Author.Needs.{needs}
 use Rattle.tables.proofs.reach.Statement.{statement}
 use Rattle.tables.proofs.reach.Tie as tie
 
-allows-free-requires : tie.Need-allows-free-requires
-allows-free-requires c κs = search needs
+has-free-requires : tie.Need-has-free-requires
+has-free-requires c κs = search needs
 
 returns : tie.Need-returns
-returns c P rest L h choice = rw (c .before .if1 .taken) (c .allows-free .ensures P rest L h)
+returns c P rest L h choice = rw (c .before .if1 .taken) (c .has-free .ensures P rest L h (few-roles (L .good) (c .before .before .before .args .kind) (c .before .before .before .pre)))
 
 role-id-requires : tie.Need-role-id-requires
 role-id-requires c κs = search needs
@@ -29,4 +29,4 @@ returns-2 c P rest L h choice =
 
 pub reach-spec : {M : Type 1} → statement M
 reach-spec =
-    tie.close (tie.spec allows-free-requires returns role-id-requires allows-id-requires returns-2)
+    tie.close (tie.spec has-free-requires returns role-id-requires allows-id-requires returns-2)

@@ -4,8 +4,7 @@ use borrow.Author.Needs.{needs}
 use Rattle.numbered.specs.Candidates.{goalAt, specialSteps, userSteps, groupSteps, objectSteps, stepsWith}
 use Rattle.numbered.specs.Number.{Among}
 use Rattle.walk.specs.Needed.{walkOf, Going}
-use Rattle.numbered.proofs.Radix.{digits-among}
-use Rattle.walk.proofs.Cells.{among-celled}
+use Rattle.numbered.proofs.Radix.{digits-among, among-celled}
 use Rattle.walk.proofs.Walks.{visits-as, visits-four}
 use Rattle.walk.proofs.Loops.{going-on}
 use Rattle.walk.proofs.Targets.{inside-specials, inside-users-set, inside-groups-set}
@@ -18,24 +17,27 @@ below : (c : tie.After-of) → Among (c .before .before .before .before .args .z
 below c = rw (c .of .ensures) (digits-among (c .before .before .before .before .pre .0 .sized) (c .before .before .before .before .args .n) (c .before .before .before .before .pre .1))
 
 -- The search goes on after each list.
-after-specials : (c : tie.After-specials) → Going (c .before .before .before .before .before .before .before .before .args .z) (c .before .before .before .before .before .before .before .before .args .p) (walkOf (c .specials .last .0) (c .specials .result))
+after-specials : (c : tie.After-specials) → let a = c .before .before .before .before .before .before .before .before .args in Going (a .z) (a .p) (walkOf (c .specials .last .0) (c .specials .result))
 after-specials c =
     let s = c .before .before .before .before .before .before .before .before in
     let a = s .args in
     going-on (goalAt (a .t .now) (a .z)) (s .pre .0) (specialSteps (a .t .now) (a .z) (c .before .before .before .before .of .result) (c .before .before .before .role-at .result))
     (inside-specials (a .store .now) (a .t .now) (below (c .before .before .before .before)) (c .before .before .before .role-at .result)) (c .specials .ensures)
 
-after-users : (c : tie.After-set-users) → Going (c .before .before .before .before .before .before .before .before .before .before .before .before .args .z) (c .before .before .before .before .before .before .before .before .before .before .before .before .args .p) (walkOf (c .set-users .last .0) (c .set-users .result))
+after-users : (c : tie.After-set-users) → let a = c .before .before .before .before .before .before .before .before .before .before .before .before .args in Going (a .z) (a .p) (walkOf (c .set-users .last .0) (c .set-users .result))
 after-users c =
     let a = c .before .before .before .before .before .before .before .before .before .before .before .before .args in
     going-on (goalAt (a .t .now) (a .z)) (after-specials (c .before .before .before .before)) (userSteps (a .store .now) (a .t .now) (a .z) (c .before .before .before .before .before .before .before .before .of .result) (c .before .before .before .before .before .before .entry-at .result))
     (inside-users-set (a .store .now) (a .t .now) (below (c .before .before .before .before .before .before .before .before)) (c .before .before .before .before .before .before .entry-at .result)) (c .set-users .ensures)
 
-after-groups : (c : tie.After-set-groups) → Going (c .before .before .before .before .before .before .before .before .before .before .before .before .before .before .before .before .args .z) (c .before .before .before .before .before .before .before .before .before .before .before .before .before .before .before .before .args .p) (walkOf (c .set-groups .last .0) (c .set-groups .result))
+after-groups : (c : tie.After-set-groups) → let a = c .before .before .before .before .before .before .before .before .before .before .before .before .before .before .before .before .args in Going (a .z) (a .p) (walkOf (c .set-groups .last .0) (c .set-groups .result))
 after-groups c =
+    let entry-at = c .before .before .before .before .before .before .before .before .before .before .entry-at in
     let a = c .before .before .before .before .before .before .before .before .before .before .before .before .before .before .before .before .args in
-    going-on (goalAt (a .t .now) (a .z)) (after-users (c .before .before .before .before)) (groupSteps (a .store .now) (a .t .now) (a .z) (c .before .before .before .before .before .before .before .before .before .before .before .before .of .result) (c .before .before .before .before .before .before .before .before .before .before .entry-at .result))
-    (inside-groups-set (a .store .now) (a .t .now) (below (c .before .before .before .before .before .before .before .before .before .before .before .before)) (c .before .before .before .before .before .before .before .before .before .before .entry-at .result)) (c .set-groups .ensures)
+    going-on (goalAt (a .t .now) (a .z)) (after-users (c .before .before .before .before))
+    (groupSteps (a .store .now) (a .t .now) (a .z) (c .before .before .before .before .before .before .before .before .before .before .before .before .of .result) (entry-at .result))
+    (inside-groups-set (a .store .now) (a .t .now) (below (c .before .before .before .before .before .before .before .before .before .before .before .before)) (entry-at .result))
+    (c .set-groups .ensures)
 
 of-requires : tie.Need-of-requires
 of-requires c κs = c .before .before .before .pre .0 .sized
@@ -64,15 +66,20 @@ same-length c = search needs
 returns : tie.Need-returns
 unfolding stepsWith
 returns c =
-    let a = c .before .before .before .before .before .before .before .before .before .before .before .before .before .before .before .before .before .before .before .before .before .before .args in
-    let d = c .before .before .before .before .before .before .before .before .before .before .before .before .before .before .before .before .before .before .of .result in
-    let role = c .before .before .before .before .before .before .before .before .before .before .before .before .before .before .before .before .before .role-at .result in
-    let entry = c .before .before .before .before .before .before .before .before .before .before .before .before .before .before .before .before .entry-at .result in
+    let digits = c .before .before .before .before .before .before .before .before .before .before .before .before .before .before .before .before .before .before .of in
+    let role-at = c .before .before .before .before .before .before .before .before .before .before .before .before .before .before .before .before .before .role-at in
+    let entry-at = c .before .before .before .before .before .before .before .before .before .before .before .before .before .before .before .before .entry-at in
+    let a =
+    c .before .before .before .before .before .before .before .before .before .before .before .before .before .before .before .before .before .before .before .before .before .before .args in
+    let d = digits .result in
+    let role = role-at .result in
+    let entry = entry-at .result in
     visits-as (goalAt (a .t .now) (a .z)) (a .p) (walkOf (a .area .now) (a .w))
     (visits-four (goalAt (a .t .now) (a .z)) (a .p) (specialSteps (a .t .now) (a .z) d role) (userSteps (a .store .now) (a .t .now) (a .z) d entry)
-    (groupSteps (a .store .now) (a .t .now) (a .z) d entry) (objectSteps (a .store .now) (a .t .now) (a .z) d entry)
-    (walkOf (a .area .now) (a .w)) (c .before .before .before .before .before .before .before .before .before .before .before .before .before .before .specials .ensures) (c .before .before .before .before .before .before .before .before .before .before .set-users .ensures) (c .before .before .before .before .before .before .set-groups .ensures) (c .before .before .exec-objects .ensures))
-    (steps-are (a .store .now) (a .t .now) (a .z) (a .n) d role entry (c .before .before .before .before .before .before .before .before .before .before .before .before .before .before .before .before .before .before .of .ensures) (c .before .before .before .before .before .before .before .before .before .before .before .before .before .before .before .before .before .role-at .ensures) (c .before .before .before .before .before .before .before .before .before .before .before .before .before .before .before .before .entry-at .ensures))
+    (groupSteps (a .store .now) (a .t .now) (a .z) d entry) (objectSteps (a .store .now) (a .t .now) (a .z) d entry) (walkOf (a .area .now) (a .w))
+    (c .before .before .before .before .before .before .before .before .before .before .before .before .before .before .specials .ensures) (c .before .before .before .before .before .before .before .before .before .before .set-users .ensures)
+    (c .before .before .before .before .before .before .set-groups .ensures) (c .before .before .exec-objects .ensures))
+    (steps-are (a .store .now) (a .t .now) (a .z) (a .n) d role entry (digits .ensures) (role-at .ensures) (entry-at .ensures))
 
 pub expand-spec : {M : Type 1} → statement M
 expand-spec =

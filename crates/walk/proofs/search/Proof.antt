@@ -4,107 +4,129 @@
 use mathlib.Core.Path.{_≡_, refl, sym, ap, _∙_}
 use Prim.Native.Nat.{ℕ, suc, _+_, _≤_, _<_, _-_}
 use native.Mathlib.Omega.{arith}
+use borrow.Author.Tests.{eq-eqb, ne-eqb}
 use lib.ListN.{getD}
 use Rattle.numbered.specs.Candidates.{goalAt, candidates}
-use Rattle.walk.specs.Walk.{Walk, visit, sweep, search}
+use Rattle.walk.specs.Walk.{Walk, sweep, search}
 use Rattle.walk.specs.Needed.{walkOf, Kept}
 use Rattle.walk.proofs.Walks.{sweep-met, sweep-more, sweep-done}
 use Rattle.walk.proofs.Keeping.{kept-empty, kept-count, kept-visit, kept-visits}
+use Rattle.walk.proofs.Full.{sweep-full}
 use Rattle.walk.proofs.Targets.{inside-candidates}
 use Rattle.walk.proofs.search.Statement.{statement}
 use Rattle.walk.proofs.search.Tie as tie
 
 abbrev Inv-loop : tie.InvT-loop
-Inv-loop area₀ store t z start w₀ p₀ area w p =
+Inv-loop area₀ store t z start all w₀ p₀ area w p =
     Kept z (walkOf area w) × ((p ≤ 8192)
     × (sweep (goalAt t z) (candidates store t z) (8192 - p) p (walkOf area w) ≡ sweep (goalAt t z) (candidates store t z) 8192 0 (walkOf area₀ w₀)))
 
 abbrev μ-loop : tie.MeasureT-loop
-μ-loop area₀ store t z start w₀ p₀ area w p = 8192 - p
+μ-loop area₀ store t z start all w₀ p₀ area w p = 8192 - p
 
--- The memory at the loop's head, and what is known of it.
+-- The function's entry and the memory, seen from the loop's head.
+abbrev entry : tie.At-loop Inv-loop μ-loop → tie.Start Inv-loop μ-loop
+entry a = a .before .before .before .before .before .before .before .before .before
+
 abbrev memory : tie.At-loop Inv-loop μ-loop → Walk
 memory a = walkOf (a .loop .area) (a .loop .w)
 
-whole : (a : tie.At-loop Inv-loop μ-loop) → let s = a .before .before .before .before .before .before .before .before in
-    sweep (goalAt (s .args .t .now) (s .args .z)) (candidates (s .args .store .now) (s .args .t .now) (s .args .z)) (8192 - a .loop .p) (a .loop .p) (memory a)
-    ≡ search (goalAt (s .args .t .now) (s .args .z)) (candidates (s .args .store .now) (s .args .t .now) (s .args .z)) (s .args .start) (s .args .area .now)
+bound : (a : tie.At-loop Inv-loop μ-loop) → a .loop .w .count ≤ 8192
+bound a = kept-count (entry a .args .z) (a .loop .inv .0)
+
+-- A memory that the rest of the sweep leaves as it is, is that of the whole search.
+whole : (a : tie.At-loop Inv-loop μ-loop) → let s = entry a in
+    sweep (goalAt (s .args .t .now) (s .args .z)) (candidates (s .args .store .now) (s .args .t .now) (s .args .z)) (8192 - a .loop .p) (a .loop .p) (memory a) ≡ memory a
+    → memory a ≡ search (goalAt (s .args .t .now) (s .args .z)) (candidates (s .args .store .now) (s .args .t .now) (s .args .z)) (s .args .start) (s .args .area .now)
 unfolding search
-whole a =
-    let s = a .before .before .before .before .before .before .before .before in
-    a .loop .inv .1 .1 ∙ ap (sweep (goalAt (s .args .t .now) (s .args .z)) (candidates (s .args .store .now) (s .args .t .now) (s .args .z)) 8192 0) (a .before .before .before .visit .ensures)
+whole a over =
+    let s = entry a in
+    sym over ∙ a .loop .inv .1 .1 ∙ ap (sweep (goalAt (s .args .t .now) (s .args .z)) (candidates (s .args .store .now) (s .args .t .now) (s .args .z)) 8192 0) (a .before .before .before .visit .ensures)
+
+all-states-requires : tie.Need-all-states-requires Inv-loop μ-loop
+all-states-requires c κs = c .before .before .before .pre .1 .0
 
 visit-requires : tie.Need-visit-requires Inv-loop μ-loop
 visit-requires c κs =
-    let s = c .before .before .before .before in
+    let s = c .before .before .before .before .before in
     (record { kept = kept-empty (s .args .z) (s .args .area .now) (s .pre .0); place = omega arith; sized = s .pre .1 .0 }, s .pre .1 .1)
 
 loop-holds : tie.Need-loop-holds Inv-loop μ-loop
 loop-holds c =
-    let s = c .before .before .before .before .before .before .before in
+    let s = c .before .before .before .before .before .before .before .before in
     let z = s .args .z in
     (rw (c .before .before .visit .ensures) (kept-visit z (s .pre .1 .0 .few) (goalAt (s .args .t .now) z) 0 0 (s .args .start) (s .pre .1 .1) (kept-empty z (s .args .area .now) (s .pre .0))), (omega arith, refl))
 
 same-length : tie.Need-same-length Inv-loop μ-loop
-same-length c = c .before .before .before .loop .inv .0 .long ∙ sym (c .before .before .before .before .before .before .before .before .before .before .before .pre .0 .long)
+same-length c = let a = c .before .before .before in a .loop .inv .0 .long ∙ sym (entry a .pre .0 .long)
 
 returns : tie.Need-returns Inv-loop μ-loop
 returns c =
     let a = c .before .before .before in
-    let s = a .before .before .before .before .before .before .before .before in
-    sym (sweep-met (goalAt (s .args .t .now) (s .args .z)) (candidates (s .args .store .now) (s .args .t .now) (s .args .z)) (8192 - a .loop .p) (a .loop .p) (memory a) (c .if2 .taken)) ∙ whole a
+    let s = entry a in
+    whole a (sweep-met (goalAt (s .args .t .now) (s .args .z)) (candidates (s .args .store .now) (s .args .t .now) (s .args .z)) (8192 - a .loop .p) (a .loop .p) (memory a) (eq-eqb _ _ (c .if2 .taken)))
+
+same-length-2 : tie.Need-same-length-2 Inv-loop μ-loop
+same-length-2 c = let a = c .before .before .before .before .before in a .loop .inv .0 .long ∙ sym (entry a .pre .0 .long)
+
+returns-2 : tie.Need-returns-2 Inv-loop μ-loop
+returns-2 c =
+    let a = c .before .before .before .before .before in
+    let s = entry a in
+    let all = c .if3 .taken ∙ a .before .before .before .before .before .all-states .ensures in
+    whole a (sweep-full (s .args .z) (s .pre .1 .0 .few) (goalAt (s .args .t .now) (s .args .z)) (memory a) (a .loop .inv .0) all
+    (candidates (s .args .store .now) (s .args .t .now) (s .args .z)) (inside-candidates (s .args .store .now) (s .args .t .now) (s .pre .1 .0)) (8192 - a .loop .p) (a .loop .p))
 
 mul-n : tie.Need-mul-n Inv-loop μ-loop
-mul-n c = let a = c .before .before .before in omega (arith, kept-count (a .before .before .before .before .before .before .before .before .args .z) (a .loop .inv .0))
+mul-n c = omega (arith, bound (c .before .before .before .before .before))
 
 slice-read-n : tie.Need-slice-read-n Inv-loop μ-loop
-slice-read-n c = let a = c .before .before .before .before in omega (arith, kept-count (a .before .before .before .before .before .before .before .before .args .z) (a .loop .inv .0), a .loop .inv .0 .long)
+slice-read-n c = let a = c .before .before .before .before .before .before in omega (arith, bound a, a .loop .inv .0 .long)
 
 cast-n : tie.Need-cast-n Inv-loop μ-loop
-cast-n c = let a = c .before .before .before .before in omega (arith, a .loop .inv .0 .states (a .loop .p) (omega arith), a .before .before .before .before .before .before .before .before .pre .1 .0 .few)
+cast-n c = let a = c .before .before .before .before .before .before in omega (arith, a .loop .inv .0 .states (a .loop .p) (omega arith), entry a .pre .1 .0 .few)
 
 expand-requires : tie.Need-expand-requires Inv-loop μ-loop
 expand-requires c κs =
-    let a = c .before .before .before .before .before in
-    let s = a .before .before .before .before .before .before .before .before in
-    (record { kept = a .loop .inv .0; place = omega (arith, kept-count (s .args .z) (a .loop .inv .0)); sized = s .pre .1 .0 }, a .loop .inv .0 .states (a .loop .p) (omega arith))
+    let a = c .before .before .before .before .before .before .before in
+    (record { kept = a .loop .inv .0; place = omega (arith, bound a); sized = entry a .pre .1 .0 }, a .loop .inv .0 .states (a .loop .p) (omega arith))
 
 add-p : tie.Need-add-p Inv-loop μ-loop
-add-p c = let a = c .before .before .before .before .before .before .before .before in omega (arith, kept-count (a .before .before .before .before .before .before .before .before .args .z) (a .loop .inv .0))
+add-p c = omega (arith, bound (c .before .before .before .before .before .before .before .before .before .before))
 
 loop-less : tie.Need-loop-less Inv-loop μ-loop
-loop-less c = let a = c .before .before .before .before .before .before .before .before in omega (arith, kept-count (a .before .before .before .before .before .before .before .before .args .z) (a .loop .inv .0))
+loop-less c = omega (arith, bound (c .before .before .before .before .before .before .before .before .before .before))
 
 loop-again : tie.Need-loop-again Inv-loop μ-loop
 loop-again c =
-    let a = c .before .before .before .before .before .before .before .before in
-    let s = a .before .before .before .before .before .before .before .before in
+    let a = c .before .before .before .before .before .before .before .before .before .before in
+    let s = entry a in
     let z = s .args .z in
     let goal = goalAt (s .args .t .now) z in
     let steps = candidates (s .args .store .now) (s .args .t .now) z in
     let p : ℕ = a .loop .p in
     let w : Walk = memory a in
-    let here : p < w .count = omega arith in
-    let bound : w .count ≤ 8192 = kept-count z (a .loop .inv .0) in
+    let here : p < w .count = omega (arith, c .before .before .before .before .before .before .before .before .if1 .taken) in
+    let most : w .count ≤ 8192 = bound a in
     let fuel : 8192 - p ≡ suc (8192 - (p + 1)) = omega arith in
     let turned = c .before .before .expand .ensures in (
       rw turned (kept-visits z (s .pre .1 .0 .few) goal p (steps (getD (w .area) p 0)) (inside-candidates (s .args .store .now) (s .args .t .now) (s .pre .1 .0) (getD (w .area) p 0) (a .loop .inv .0 .states p here)) (a .loop .inv .0)),
       (
         omega arith,
         ap (sweep goal steps (8192 - (p + 1)) (p + 1)) turned
-            ∙ sym (sweep-more goal steps (8192 - (p + 1)) p w (c .before .before .before .before .before .if2 .left) here)
+            ∙ sym (sweep-more goal steps (8192 - (p + 1)) p w (ne-eqb _ _ (c .before .before .before .before .before .before .before .if2 .left)) here)
             ∙ ap (λ (f : ℕ). sweep goal steps f p w) (sym fuel) ∙ a .loop .inv .1 .1,
       ),
     )
 
-same-length-2 : tie.Need-same-length-2 Inv-loop μ-loop
-same-length-2 c = c .before .before .loop .inv .0 .long ∙ sym (c .before .before .before .before .before .before .before .before .before .before .pre .0 .long)
+same-length-3 : tie.Need-same-length-3 Inv-loop μ-loop
+same-length-3 c = let a = c .before .before in a .loop .inv .0 .long ∙ sym (entry a .pre .0 .long)
 
-returns-2 : tie.Need-returns-2 Inv-loop μ-loop
-returns-2 c =
+returns-3 : tie.Need-returns-3 Inv-loop μ-loop
+returns-3 c =
     let a = c .before .before in
-    let s = a .before .before .before .before .before .before .before .before in
-    sym (sweep-done (goalAt (s .args .t .now) (s .args .z)) (candidates (s .args .store .now) (s .args .t .now) (s .args .z)) (8192 - a .loop .p) (a .loop .p) (memory a) (omega arith)) ∙ whole a
+    let s = entry a in
+    whole a (sweep-done (goalAt (s .args .t .now) (s .args .z)) (candidates (s .args .store .now) (s .args .t .now) (s .args .z)) (8192 - a .loop .p) (a .loop .p) (memory a) (omega arith))
 
 pub search-spec : {M : Type 1} → statement M
 search-spec =
@@ -112,10 +134,13 @@ search-spec =
     (tie.spec
     Inv-loop
     μ-loop
+    all-states-requires
     visit-requires
     loop-holds
     same-length
     returns
+    same-length-2
+    returns-2
     mul-n
     slice-read-n
     cast-n
@@ -123,5 +148,5 @@ search-spec =
     add-p
     loop-less
     loop-again
-    same-length-2
-    returns-2)
+    same-length-3
+    returns-3)

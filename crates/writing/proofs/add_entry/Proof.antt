@@ -47,7 +47,8 @@ same-length c = search needs
 returns : tie.Need-returns
 returns c =
     let at = c .before .before .before .before .before .before .before .before .before .before .before .before in
-    entry-added (at .args .t) (at .args .store .now) (at .args .subject) (at .args .role) (at .args .caps) (at .args .users) (at .args .groups) (at .pre .0) (c .with-entry .ensures) (c .before .before .before .before .before .before .entry-row .ensures) (c .before .before .before .put-row .ensures) (same-length c)
+    entry-added (at .args .t) (at .args .store .now) (at .args .subject) (at .args .role) (at .args .caps) (at .args .users) (at .args .groups) (at .pre .0) (c .with-entry .ensures)
+    (c .before .before .before .before .before .before .entry-row .ensures) (c .before .before .before .put-row .ensures) (same-length c)
 
 pub add-entry-spec : {M : Type 1} → statement M
 add-entry-spec =

@@ -35,7 +35,9 @@ same-length c = search needs
 returns : tie.Need-returns
 returns c =
     let at = c .before .before .before .before .before .before .before .before .before .before .before .before in
-    object-added (at .args .t) (at .args .store .now) (at .pre .1 .0) (record { path = at .args .path; modes = at .args .modes }) (at .pre .0) (c .before .before .before .before .with-object .ensures) (c .before .before .before .before .before .before .before .put-row .ensures) (c .before .before .put-count .ensures) (same-length c)
+    object-added (at .args .t) (at .args .store .now) (at .pre .1 .0) (record { path = at .args .path; modes = at .args .modes }) (at .pre .0)
+    (c .before .before .before .before .with-object .ensures) (c .before .before .before .before .before .before .before .put-row .ensures) (c .before .before .put-count .ensures)
+    (same-length c)
 
 pub add-object-spec : {M : Type 1} → statement M
 add-object-spec =

@@ -47,7 +47,9 @@ same-length c = search needs
 returns : tie.Need-returns
 returns c =
     let at = c .before .before .before .before .before .before .before .before .before .before .before .before .before .before in
-    path-added (at .args .t) (at .args .store .now) (at .args .path .now) (at .pre .0) (c .with-path .ensures) (c .before .before .before .before .before .before .before .before .before .before .place-row .ensures) (c .before .before .before .before .before .before .before .put-row .ensures) (c .before .before .before .put-row2 .ensures) (same-length c)
+    path-added (at .args .t) (at .args .store .now) (at .args .path .now) (at .pre .0) (c .with-path .ensures)
+    (c .before .before .before .before .before .before .before .before .before .before .place-row .ensures) (c .before .before .before .before .before .before .before .put-row .ensures)
+    (c .before .before .before .put-row2 .ensures) (same-length c)
 
 pub add-path-spec : {M : Type 1} → statement M
 add-path-spec =

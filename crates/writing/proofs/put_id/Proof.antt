@@ -44,7 +44,9 @@ same-length c = search needs
 returns : tie.Need-returns
 returns c =
     let at = c .before .before .before .before .before .before .before .before .before .before .before .before .before .before in
-    id-written (at .args .t) (at .args .store .now) (at .args .id) (at .args .field) (at .args .count) (c .before .before .before .before .before .before .before .before .before .id-bytes .ensures) (c .before .before .before .before .before .before .put-row .ensures) (c .before .before .put-count .ensures)
+    id-written (at .args .t) (at .args .store .now) (at .args .id) (at .args .field) (at .args .count)
+    (c .before .before .before .before .before .before .before .before .before .id-bytes .ensures) (c .before .before .before .before .before .before .put-row .ensures)
+    (c .before .before .put-count .ensures)
 
 pub put-id-spec : {M : Type 1} → statement M
 put-id-spec =

@@ -35,28 +35,61 @@ wide-requires-2 c κs = search needs
 
 returns-2 : tie.Need-returns-2
 unfolding goodEntry
-returns-2 c = λ P rest bytes h. rw (lt-ltb (byteAt (c .before .before .before .before .before .before .before .before .before .before .args .frame) 1) (length (P .roles)) (omega (arith, h .roles, c .before .before .before .before .before .wide .ensures .0, c .before .before .before .before .before .before .byte .ensures)), le-ltb (byteAt (c .before .before .before .before .before .before .before .before .before .before .args .frame) 2) (length (P .paths)) (omega (arith, h .paths, c .before .before .wide2 .ensures .0, c .before .before .before .byte2 .ensures)))
+returns-2 c P rest bytes h =
+    let s = c .before .before .before .before .before .before .before .before .before .before in
+    rw (
+      lt-ltb (byteAt (s .args .frame) 1) (length (P .roles))
+          (omega (arith, h .roles, c .before .before .before .before .before .wide .ensures .0, c .before .before .before .before .before .before .byte .ensures)),
+      le-ltb (byteAt (s .args .frame) 2) (length (P .paths)) (omega (arith, h .paths, c .before .before .wide2 .ensures .0, c .before .before .before .byte2 .ensures)),
+    )
 
 byte-requires-3 : tie.Need-byte-requires-3
 byte-requires-3 c κs = search needs
 
 returns-3 : tie.Need-returns-3
 unfolding goodEntry
-returns-3 c = λ P rest bytes h. rw (lt-ltb (byteAt (c .before .before .before .before .before .before .before .before .before .before .before .before .args .frame) 1) (length (P .roles)) (omega (arith, h .roles, c .before .before .before .before .before .before .before .wide .ensures .0, c .before .before .before .before .before .before .before .before .byte .ensures)), lt-ltb (byteAt (c .before .before .before .before .before .before .before .before .before .before .before .before .args .frame) 2) (length (P .paths)) (omega (arith, h .paths, c .before .before .before .before .wide2 .ensures .0, c .before .before .before .before .before .byte2 .ensures)), le-ltb (byteAt (c .before .before .before .before .before .before .before .before .before .before .before .before .args .frame) 3) 4 (omega (arith, c .before .byte3 .ensures)))
+returns-3 c P rest bytes h =
+    let s = c .before .before .before .before .before .before .before .before .before .before .before .before in
+    rw (
+      lt-ltb (byteAt (s .args .frame) 1) (length (P .roles))
+          (omega (arith, h .roles, c .before .before .before .before .before .before .before .wide .ensures .0, c .before .before .before .before .before .before .before .before .byte .ensures)),
+      lt-ltb (byteAt (s .args .frame) 2) (length (P .paths))
+          (omega (arith, h .paths, c .before .before .before .before .wide2 .ensures .0, c .before .before .before .before .before .byte2 .ensures)),
+      le-ltb (byteAt (s .args .frame) 3) 4 (omega (arith, c .before .byte3 .ensures)),
+    )
 
 byte-requires-4 : tie.Need-byte-requires-4
 byte-requires-4 c κs = search needs
 
 returns-4 : tie.Need-returns-4
 unfolding goodEntry
-returns-4 c = λ P rest bytes h. rw (lt-ltb (byteAt (c .before .before .before .before .before .before .before .before .before .before .before .before .before .before .args .frame) 1) (length (P .roles)) (omega (arith, h .roles, c .before .before .before .before .before .before .before .before .before .wide .ensures .0, c .before .before .before .before .before .before .before .before .before .before .byte .ensures)), lt-ltb (byteAt (c .before .before .before .before .before .before .before .before .before .before .before .before .before .before .args .frame) 2) (length (P .paths)) (omega (arith, h .paths, c .before .before .before .before .before .before .wide2 .ensures .0, c .before .before .before .before .before .before .before .byte2 .ensures)), lt-ltb (byteAt (c .before .before .before .before .before .before .before .before .before .before .before .before .before .before .args .frame) 3) 4 (omega (arith, c .before .before .before .byte3 .ensures)), lt-leb (byteAt (c .before .before .before .before .before .before .before .before .before .before .before .before .before .before .args .frame) 4) 2 (omega (arith, c .before .byte4 .ensures)))
+returns-4 c P rest bytes h =
+    let s = c .before .before .before .before .before .before .before .before .before .before .before .before .before .before in
+    rw (
+      lt-ltb (byteAt (s .args .frame) 1) (length (P .roles))
+          (omega (arith, h .roles, c .before .before .before .before .before .before .before .before .before .wide .ensures .0, c .before .before .before .before .before .before .before .before .before .before .byte .ensures)),
+      lt-ltb (byteAt (s .args .frame) 2) (length (P .paths))
+          (omega (arith, h .paths, c .before .before .before .before .before .before .wide2 .ensures .0, c .before .before .before .before .before .before .before .byte2 .ensures)),
+      lt-ltb (byteAt (s .args .frame) 3) 4 (omega (arith, c .before .before .before .byte3 .ensures)),
+      lt-leb (byteAt (s .args .frame) 4) 2 (omega (arith, c .before .byte4 .ensures)),
+    )
 
 byte-requires-5 : tie.Need-byte-requires-5
 byte-requires-5 c κs = search needs
 
 returns-5 : tie.Need-returns-5
 unfolding goodEntry
-returns-5 c = λ P rest bytes h. rw (lt-ltb (byteAt (c .before .before .before .before .before .before .before .before .before .before .before .before .before .before .before .args .frame) 1) (length (P .roles)) (omega (arith, h .roles, c .before .before .before .before .before .before .before .before .before .before .wide .ensures .0, c .before .before .before .before .before .before .before .before .before .before .before .byte .ensures)), lt-ltb (byteAt (c .before .before .before .before .before .before .before .before .before .before .before .before .before .before .before .args .frame) 2) (length (P .paths)) (omega (arith, h .paths, c .before .before .before .before .before .before .before .wide2 .ensures .0, c .before .before .before .before .before .before .before .before .byte2 .ensures)), lt-ltb (byteAt (c .before .before .before .before .before .before .before .before .before .before .before .before .before .before .before .args .frame) 3) 4 (omega (arith, c .before .before .before .before .byte3 .ensures)), le-leb (byteAt (c .before .before .before .before .before .before .before .before .before .before .before .before .before .before .before .args .frame) 4) 2 (omega (arith, c .before .before .byte4 .ensures)), ← c .byte5 .ensures)
+returns-5 c P rest bytes h =
+    let s = c .before .before .before .before .before .before .before .before .before .before .before .before .before .before .before in
+    rw (
+      lt-ltb (byteAt (s .args .frame) 1) (length (P .roles))
+          (omega (arith, h .roles, c .before .before .before .before .before .before .before .before .before .before .wide .ensures .0, c .before .before .before .before .before .before .before .before .before .before .before .byte .ensures)),
+      lt-ltb (byteAt (s .args .frame) 2) (length (P .paths))
+          (omega (arith, h .paths, c .before .before .before .before .before .before .before .wide2 .ensures .0, c .before .before .before .before .before .before .before .before .byte2 .ensures)),
+      lt-ltb (byteAt (s .args .frame) 3) 4 (omega (arith, c .before .before .before .before .byte3 .ensures)),
+      le-leb (byteAt (s .args .frame) 4) 2 (omega (arith, c .before .before .byte4 .ensures)),
+      ← c .byte5 .ensures,
+    )
 
 pub is-good-entry-spec : {M : Type 1} → statement M
 is-good-entry-spec =

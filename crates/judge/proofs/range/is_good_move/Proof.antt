@@ -36,7 +36,13 @@ returns c = λ P rest sound h. rw (le-ltb (byteAt (c .before .before .before .be
 
 returns-2 : tie.Need-returns-2
 unfolding goodMove
-returns-2 c = λ P rest sound h. rw (lt-ltb (byteAt (c .before .before .before .before .before .before .before .before .before .before .args .frame) 1) (length (P .roles)) (omega (arith, h .roles, c .before .before .before .before .wide .ensures .0, c .before .before .before .before .before .byte .ensures)), le-ltb (byteAt (c .before .before .before .before .before .before .before .before .before .before .args .frame) 2) (length (P .roles)) (omega (arith, h .roles, c .before .before .wide2 .ensures .0, c .before .before .before .byte2 .ensures)))
+returns-2 c P rest sound h =
+    let s = c .before .before .before .before .before .before .before .before .before .before in
+    rw (
+      lt-ltb (byteAt (s .args .frame) 1) (length (P .roles))
+          (omega (arith, h .roles, c .before .before .before .before .wide .ensures .0, c .before .before .before .before .before .byte .ensures)),
+      le-ltb (byteAt (s .args .frame) 2) (length (P .roles)) (omega (arith, h .roles, c .before .before .wide2 .ensures .0, c .before .before .before .byte2 .ensures)),
+    )
 
 mul-result : tie.Need-mul-result
 mul-result c = search needs
@@ -49,9 +55,17 @@ shared-slice-read-result c = search needs
 
 returns-3 : tie.Need-returns-3
 unfolding goodMove
-returns-3 c = λ P rest sound h.
-    let kind = role-kind P rest (c .before .before .before .before .before .before .before .before .before .before .before .args .t) (c .before .before .before .before .before .before .before .before .before .before .before .args .store .now) (c .before .before .before .before .before .before .before .before .before .before .before .pre .0) h (c .before .before .before .wide2 .result) (omega (arith, h .roles)) in
-    rw (lt-ltb (byteAt (c .before .before .before .before .before .before .before .before .before .before .before .args .frame) 1) (length (P .roles)) (omega (arith, h .roles, c .before .before .before .before .before .wide .ensures .0, c .before .before .before .before .before .before .byte .ensures)), lt-ltb (byteAt (c .before .before .before .before .before .before .before .before .before .before .before .args .frame) 2) (length (P .roles)) (omega (arith, h .roles, c .before .before .before .wide2 .ensures .0, c .before .before .before .before .byte2 .ensures)), kind, c .before .before .before .wide2 .ensures .0, c .before .before .before .before .byte2 .ensures)
+returns-3 c P rest sound h =
+    let s = c .before .before .before .before .before .before .before .before .before .before .before in
+    let kind = role-kind P rest (s .args .t) (s .args .store .now) (s .pre .0) h (c .before .before .before .wide2 .result) (omega (arith, h .roles)) in
+    rw (
+      lt-ltb (byteAt (s .args .frame) 1) (length (P .roles))
+          (omega (arith, h .roles, c .before .before .before .before .before .wide .ensures .0, c .before .before .before .before .before .before .byte .ensures)),
+      lt-ltb (byteAt (s .args .frame) 2) (length (P .roles)) (omega (arith, h .roles, c .before .before .before .wide2 .ensures .0, c .before .before .before .before .byte2 .ensures)),
+      kind,
+      c .before .before .before .wide2 .ensures .0,
+      c .before .before .before .before .byte2 .ensures,
+    )
 
 pub is-good-move-spec : {M : Type 1} → statement M
 is-good-move-spec =

@@ -9,8 +9,8 @@ use borrow.Author.Needs.{needs}
 use Rattle.judge.proofs.second.has_id.Statement.{statement}
 use Rattle.judge.proofs.second.has_id.Tie as tie
 
-id-key-requires : tie.Need-id-key-requires
-id-key-requires c κs = search needs
+id-bytes-requires : tie.Need-id-bytes-requires
+id-bytes-requires c κs = search needs
 
 sub-has-row : tie.Need-sub-has-row
 sub-has-row c = search needs
@@ -30,13 +30,13 @@ has-row-requires c κs = search needs
 returns : tie.Need-returns
 returns c =
     let a = c .before .before .before .before .before .args in
-    c .has-row .ensures ∙ rw (c .before .before .before .id-key .ensures, take-all (length (a .store .now) - a .at) (drop (a .at) (a .store .now)) (simp length-drop (omega arith)))
+    c .has-row .ensures ∙ rw (c .before .before .before .id-bytes .ensures, take-all (length (a .store .now) - a .at) (drop (a .at) (a .store .now)) (simp length-drop (omega arith)))
 
 pub has-id-spec : {M : Type 1} → statement M
 has-id-spec =
     tie.close
     (tie.spec
-    id-key-requires
+    id-bytes-requires
     sub-has-row
     part-has-row-start
     part-has-row-end

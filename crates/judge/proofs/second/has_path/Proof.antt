@@ -1,7 +1,7 @@
 -- `judge::second::has_path` meets its contract. The invariant: the paths from `i` on decide.
 -- Assumes nothing.
 use mathlib.Core.Bool.{true, false}
-use Rattle.judge.proofs.Rows.{any-next, any-end}
+use Rattle.gran.proofs.Lists.{any-next, any-end}
 use Rattle.store.specs.declared.Tally.{Tally}
 use Rattle.store.specs.Held.{Bounded, Holds}
 use Rattle.gran.specs.Policy.{Policy}
@@ -9,7 +9,7 @@ use Rattle.gran.specs.Lists.{any}
 use Rattle.paths.specs.Path.{same}
 use lib.ListN.{length, drop}
 use Prim.Native.Nat.{ℕ, _-_, _≤_}
-use mathlib.Core.List.{List}
+use mathlib.Core.List.{List, []}
 use borrow.Author.Needs.{needs}
 use native.Mathlib.Omega.{arith}
 use mathlib.Core.Path.{_≡_, _∙_, refl, sym}
@@ -34,7 +34,7 @@ returns c = λ P rest sound h.
     let a = c .before .before .before .before .before .before .args in
     let l = c .before .before .before .loop in
     sym (l .inv .3 P rest (a .t) (c .before .before .before .before .before .before .pre .0) h refl
-    ∙ any-next (same (a .path .now)) (P .paths) (l .i) (omega (arith, h .paths)) true (sym (c .if1 .taken) ∙ c .before .is-path .ensures P rest (a .t) (c .before .before .before .before .before .before .pre .0) h (omega (arith, h .paths))))
+    ∙ any-next (same (a .path .now)) (P .paths) (l .i) [] (omega (arith, h .paths)) true (sym (c .if1 .taken) ∙ c .before .is-path .ensures P rest (a .t) (c .before .before .before .before .before .before .pre .0) h (omega (arith, h .paths))))
 
 add-i : tie.Need-add-i Inv-loop μ-loop
 add-i c = search needs
@@ -51,7 +51,7 @@ loop-again c = (
       let a = c .before .before .before .before .before .before .args in
       let l = c .before .before .before .loop in
       l .inv .3 P rest t bounded h e
-      ∙ any-next (same (a .path .now)) (P .paths) (l .i) (omega (arith, h .paths)) false (sym (c .if1 .left) ∙ c .before .is-path .ensures P rest t bounded h (omega (arith, h .paths))),
+      ∙ any-next (same (a .path .now)) (P .paths) (l .i) [] (omega (arith, h .paths)) false (sym (c .if1 .left) ∙ c .before .is-path .ensures P rest t bounded h (omega (arith, h .paths))),
 )
 
 returns-2 : tie.Need-returns-2 Inv-loop μ-loop

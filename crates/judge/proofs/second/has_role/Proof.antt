@@ -14,8 +14,8 @@ returns : tie.Need-returns
 unfolding hasRole
 returns c = λ P rest sound h. rw (c .if1 .taken)
 
-id-key-requires : tie.Need-id-key-requires
-id-key-requires c κs = search needs
+id-bytes-requires : tie.Need-id-bytes-requires
+id-bytes-requires c κs = search needs
 
 array-read-t12 : tie.Need-array-read-t12
 array-read-t12 c = search needs
@@ -55,17 +55,19 @@ has-row-requires c κs = search needs
 
 returns-2 : tie.Need-returns-2
 unfolding hasRole four
-returns-2 c = λ P rest sound h.
-    let a = c .before .before .before .before .before .before .before .before .before .args in
+returns-2 c P rest sound h =
+    let s = c .before .before .before .before .before .before .before .before .before in
+    let a = s .args in
     c .has-row .ensures
-    ∙ rw (c .before .before .before .before .before .before .id-key .ensures, ne-eqb _ _ (c .before .before .before .before .before .before .before .if1 .left)) (found-role P rest (a .t) (a .store .now) (c .before .before .before .before .before .before .before .before .before .pre .0) h sound (a .kind) (a .id) (omega arith))
+    ∙ rw (c .before .before .before .before .before .before .id-bytes .ensures, ne-eqb _ _ (c .before .before .before .before .before .before .before .if1 .left))
+    (found-role P rest (a .t) (a .store .now) (s .pre .0) h sound (a .kind) (a .id) (omega arith))
 
 pub has-role-spec : {M : Type 1} → statement M
 has-role-spec =
     tie.close
     (tie.spec
     returns
-    id-key-requires
+    id-bytes-requires
     array-read-t12
     array-read-t15
     array-read-t18

@@ -56,9 +56,17 @@ add-end : tie.Need-add-end
 add-end c = search needs
 
 returns-2 : tie.Need-returns-2
-returns-2 c = λ P rest t bounded h l.
+returns-2 c P rest t bounded h l =
     let a = c .before .before .before .before .before .before .before .before .before .before .args in
-    absurd (omega (arith, c .before .wide3 .ensures .0, c .before .before .before .wide2 .ensures .0, c .before .before .before .before .before .before .wide .ensures .0, path-size P rest t (a .store .now) bounded h (a .number) l, path-place P rest t (a .store .now) bounded h (a .number) l, path-fits P rest t (a .store .now) bounded h (a .number) l))
+    absurd (omega (
+      arith,
+      c .before .wide3 .ensures .0,
+      c .before .before .before .wide2 .ensures .0,
+      c .before .before .before .before .before .before .wide .ensures .0,
+      path-size P rest t (a .store .now) bounded h (a .number) l,
+      path-place P rest t (a .store .now) bounded h (a .number) l,
+      path-fits P rest t (a .store .now) bounded h (a .number) l,
+    ))
 
 sub-has-row : tie.Need-sub-has-row
 sub-has-row c = search needs

@@ -27,11 +27,27 @@ returns-5 c = simp (ne-eqb _ _ (c .before .before .before .before .if1 .left), n
 
 returns-6 : tie.Need-returns-6
 unfolding mayFollow
-returns-6 c = simp (ne-eqb _ _ (c .before .before .before .before .before .if1 .left), ne-eqb _ _ (c .before .before .before .before .if2 .left), ne-eqb _ _ (c .before .before .before .if3 .left), ne-eqb _ _ (c .before .before .if4 .left), lt-ltb _ _ (c .before .if5 .left), lt-leb _ _ (c .if6 .taken))
+returns-6 c =
+    simp (
+      ne-eqb _ _ (c .before .before .before .before .before .if1 .left),
+      ne-eqb _ _ (c .before .before .before .before .if2 .left),
+      ne-eqb _ _ (c .before .before .before .if3 .left),
+      ne-eqb _ _ (c .before .before .if4 .left),
+      lt-ltb _ _ (c .before .if5 .left),
+      lt-leb _ _ (c .if6 .taken),
+    )
 
 returns-7 : tie.Need-returns-7
 unfolding mayFollow
-returns-7 c = simp (ne-eqb _ _ (c .before .before .before .before .before .if1 .left), ne-eqb _ _ (c .before .before .before .before .if2 .left), ne-eqb _ _ (c .before .before .before .if3 .left), ne-eqb _ _ (c .before .before .if4 .left), lt-ltb _ _ (c .before .if5 .left), le-leb _ _ (c .if6 .left))
+returns-7 c =
+    simp (
+      ne-eqb _ _ (c .before .before .before .before .before .if1 .left),
+      ne-eqb _ _ (c .before .before .before .before .if2 .left),
+      ne-eqb _ _ (c .before .before .before .if3 .left),
+      ne-eqb _ _ (c .before .before .if4 .left),
+      lt-ltb _ _ (c .before .if5 .left),
+      le-leb _ _ (c .if6 .left),
+    )
 
 pub may-follow-spec : {M : Type 1} → statement M
 may-follow-spec =

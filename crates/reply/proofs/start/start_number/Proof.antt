@@ -2,6 +2,7 @@
 -- Assumes nothing.
 use mathlib.Core.Path.{_≡_, _∙_}
 use native.Mathlib.Omega.{arith}
+use lib.ListN.{length-take}
 use Rattle.gran.specs.Real
 use Rattle.gran.specs.Abstract.{abstract}
 use Rattle.fields.specs.Fields.{policyIn}
@@ -14,14 +15,14 @@ use Rattle.reply.proofs.start.start_number.Tie as tie
 
 -- What is read are the start's places.
 digits : (c : tie.After-byte) → let s = c .before .before .before .before .before .before .before .before .before .before .before .before .before .before in
-    record { special = 0; user = c .before .before .before .before .before .before .place-of .result; group = c .before .before .before .place-of2 .result; subject = c .byte .result }
+    record { special = 0; user = c .before .before .before .before .before .before .place-in .result; group = c .before .before .before .place-in2 .result; subject = c .byte .result }
     ≡ placesOf (policyIn (s .args .store .now)) (abstract (policyIn (s .args .store .now)) (Real.start (s .args .uid) (s .args .gid) (s .args .start .now)))
 digits c =
     let s = c .before .before .before .before .before .before .before .before .before .before .before .before .before .before in
     let r = s .pre .1 in
     let L = r .held in
     start-digits r (s .args .uid) (s .args .gid) (s .args .start .now) _ _ _ _ _ _
-    (c .before .before .before .before .before .before .place-of .ensures) (c .before .before .before .before .before .before .before .role-of .ensures _ _ L) (c .before .before .before .place-of2 .ensures) (c .before .before .before .before .role-of2 .ensures _ _ L)
+    (c .before .before .before .before .before .before .place-in .ensures) (c .before .before .before .before .before .before .before .role-of .ensures _ _ L) (c .before .before .before .place-in2 .ensures) (c .before .before .before .before .role-of2 .ensures _ _ L)
     (c .byte .ensures) (c .before .subject-of .ensures _ _ _ L (c .before .before .grades-for .ensures _ _ L))
 
 add-users : tie.Need-add-users
@@ -30,35 +31,41 @@ add-users c = omega (arith, ready-sized (c .before .before .before .before .pre 
 add-groups : tie.Need-add-groups
 add-groups c = omega (arith, ready-sized (c .before .before .before .before .before .pre .1) .groups .1)
 
-sub-place-of : tie.Need-sub-place-of
-sub-place-of c = search needs
+sub-place-in : tie.Need-sub-place-in
+sub-place-in c = search needs
 
-part-place-of-start : tie.Need-part-place-of-start
-part-place-of-start c = search needs
+part-place-in-start : tie.Need-part-place-in-start
+part-place-in-start c = search needs
 
-part-place-of-end : tie.Need-part-place-of-end
-part-place-of-end c = omega (arith, ready-sized (c .before .before .before .before .before .pre .1) .users .1, c .before .before .before .before .before .pre .1 .tabled .long)
+part-place-in-end : tie.Need-part-place-in-end
+part-place-in-end c = omega (arith, ready-sized (c .before .before .before .before .before .pre .1) .users .1, c .before .before .before .before .before .pre .1 .tabled .long)
 
 role-of-requires : tie.Need-role-of-requires
 role-of-requires c κs = search needs
 
-place-of-requires : tie.Need-place-of-requires
-place-of-requires c κs = search needs
+place-in-requires : tie.Need-place-in-requires
+place-in-requires c κs = rw length-take (omega (arith, ready-sized (c .before .before .before .before .before .before .before .pre .1) .users .1))
 
-sub-place-of-2 : tie.Need-sub-place-of-2
-sub-place-of-2 c = search needs
+cast-user : tie.Need-cast-user
+cast-user c = search needs
 
-part-place-of-start-2 : tie.Need-part-place-of-start-2
-part-place-of-start-2 c = search needs
+sub-place-in-2 : tie.Need-sub-place-in-2
+sub-place-in-2 c = search needs
 
-part-place-of-end-2 : tie.Need-part-place-of-end-2
-part-place-of-end-2 c = omega (arith, ready-sized (c .before .before .before .before .before .before .before .before .pre .1) .groups .1, c .before .before .before .before .before .before .before .before .pre .1 .tabled .long)
+part-place-in-start-2 : tie.Need-part-place-in-start-2
+part-place-in-start-2 c = search needs
+
+part-place-in-end-2 : tie.Need-part-place-in-end-2
+part-place-in-end-2 c = omega (arith, ready-sized (c .before .before .before .before .before .before .before .before .pre .1) .groups .1, c .before .before .before .before .before .before .before .before .pre .1 .tabled .long)
 
 role-of-requires-2 : tie.Need-role-of-requires-2
 role-of-requires-2 c κs = search needs
 
-place-of-requires-2 : tie.Need-place-of-requires-2
-place-of-requires-2 c κs = search needs
+place-in-requires-2 : tie.Need-place-in-requires-2
+place-in-requires-2 c κs = rw length-take (omega (arith, ready-sized (c .before .before .before .before .before .before .before .before .before .before .pre .1) .groups .1))
+
+cast-group : tie.Need-cast-group
+cast-group c = search needs
 
 grades-for-requires : tie.Need-grades-for-requires
 grades-for-requires c κs = search needs
@@ -95,16 +102,18 @@ start-number-spec =
     (tie.spec
     add-users
     add-groups
-    sub-place-of
-    part-place-of-start
-    part-place-of-end
+    sub-place-in
+    part-place-in-start
+    part-place-in-end
     role-of-requires
-    place-of-requires
-    sub-place-of-2
-    part-place-of-start-2
-    part-place-of-end-2
+    place-in-requires
+    cast-user
+    sub-place-in-2
+    part-place-in-start-2
+    part-place-in-end-2
     role-of-requires-2
-    place-of-requires-2
+    place-in-requires-2
+    cast-group
     grades-for-requires
     subject-of-requires
     cast-byte

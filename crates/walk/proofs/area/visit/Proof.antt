@@ -3,7 +3,9 @@
 use mathlib.Core.Path.{sym}
 use Prim.Native.Nat.{_<_}
 use native.Mathlib.Omega.{arith}
+use borrow.Author.Tests.{eq-eqb, ne-eqb}
 use lib.ListN.{length-set}
+use borrow.Author.Needs.{needs}
 use Rattle.numbered.specs.Candidates.{goalAt}
 use Rattle.walk.specs.Walk.{Walk}
 use Rattle.walk.specs.Needed.{walkOf}
@@ -23,7 +25,7 @@ room : (c : tie.Else2) → c .before .before .before .before .before .args .w .c
 room c = let s = c .before .before .before .before .before in kept-room (s .args .z) (s .pre .0 .kept) (s .args .n) (small s) (c .if2 .left)
 
 returns : tie.Need-returns
-returns c = let s = c .before .before .before in sym (visit-met (goalAt (s .args .t .now) (s .args .z)) (s .args .p) (s .args .c) (s .args .n) (memory s) (c .if1 .taken))
+returns c = let s = c .before .before .before in sym (visit-met (goalAt (s .args .t .now) (s .args .z)) (s .args .p) (s .args .c) (s .args .n) (memory s) (eq-eqb _ _ (c .if1 .taken)))
 
 add-at : tie.Need-add-at
 add-at c = omega (arith, small (c .before .before .before))
@@ -35,7 +37,7 @@ slice-read-if2 : tie.Need-slice-read-if2
 slice-read-if2 c = omega (arith, small (c .before .before .before .before), c .before .before .before .before .pre .0 .kept .long)
 
 returns-2 : tie.Need-returns-2
-returns-2 c = let s = c .before .before .before .before .before in sym (visit-old (goalAt (s .args .t .now) (s .args .z)) (s .args .p) (s .args .c) (s .args .n) (memory s) (c .before .before .if1 .left) (c .if2 .taken))
+returns-2 c = let s = c .before .before .before .before .before in sym (visit-old (goalAt (s .args .t .now) (s .args .z)) (s .args .p) (s .args .c) (s .args .n) (memory s) (ne-eqb _ _ (c .before .before .if1 .left)) (c .if2 .taken))
 
 cast-area : tie.Need-cast-area
 cast-area c = omega (arith, small (c .before .before .before .before .before))
@@ -73,13 +75,16 @@ add-more c = omega (arith, room c)
 is-goal-requires : tie.Need-is-goal-requires
 is-goal-requires c κs = c .before .before .before .before .before .pre .0 .sized
 
+flag-requires : tie.Need-flag-requires
+flag-requires c κs = search needs
+
 same-length : tie.Need-same-length
 same-length c = simp length-set
 
 returns-3 : tie.Need-returns-3
 returns-3 c =
-    let s = c .before .before .before .before .before .before in
-    rw (c .is-goal .ensures) (sym (visit-new (goalAt (s .args .t .now) (s .args .z)) (s .args .p) (s .args .c) (s .args .n) (memory s) (c .before .before .before .if1 .left) (c .before .if2 .left)))
+    let s = c .before .before .before .before .before .before .before in
+    rw (c .flag .ensures, c .before .is-goal .ensures) (sym (visit-new (goalAt (s .args .t .now) (s .args .z)) (s .args .p) (s .args .c) (s .args .n) (memory s) (ne-eqb _ _ (c .before .before .before .before .if1 .left)) (c .before .before .if2 .left)))
 
 pub visit-spec : {M : Type 1} → statement M
 visit-spec =
@@ -102,5 +107,6 @@ visit-spec =
     slice-write-area-3
     add-more
     is-goal-requires
+    flag-requires
     same-length
     returns-3)

@@ -1,5 +1,6 @@
 -- `execs::exec_object` meets its contract: its image is collected, and then by user.
 -- Assumes nothing.
+use borrow.Author.Tests.{not-true, not-false}
 use borrow.Author.Needs.{needs}
 use mathlib.Core.Path.{sym, ap, _∙_}
 use Prim.Native.Nat.{ℕ}
@@ -9,7 +10,7 @@ use Rattle.gran.specs.Access.{sees}
 use Rattle.numbered.specs.Candidates.{goalAt, byUser}
 use Rattle.walk.specs.Needed.{walkOf}
 use Rattle.walk.proofs.Walks.{visits-none, visits-as, written-front, written-fits}
-use Rattle.walk.proofs.Tests.{untrue, not-untrue, read, object-none, object-some}
+use Rattle.walk.proofs.Tests.{read, object-none, object-some}
 use Rattle.walk.proofs.execs.exec_object.Statement.{statement}
 use Rattle.walk.proofs.execs.exec_object.Tie as tie
 
@@ -24,7 +25,7 @@ returns c =
     let a = c .before .before .before .before .before .before .args in
     visits-none (goalAt (a .t .now) (a .z)) (a .p) (walkOf (a .area .now) (a .w))
     (object-none (a .store .now) (a .t .now) (a .z) (a .d) (a .entry) (a .i)
-    (read (λ (m : ℕ). sees m EXEC) (c .before .before .object-modes .ensures) (c .before .executable .ensures) (untrue (c .before .executable .result) (c .if1 .taken))))
+    (read (λ (m : ℕ). sees m EXEC) (c .before .before .object-modes .ensures) (c .before .executable .ensures) (not-true (c .before .executable .result) (c .if1 .taken))))
 
 object-path-requires : tie.Need-object-path-requires
 object-path-requires c κs = search needs
@@ -42,18 +43,21 @@ slice-aggregate-exec-users : tie.Need-slice-aggregate-exec-users
 slice-aggregate-exec-users c = c .before .before .before .collect .ensures .size ∙ sym (ap length (written-front (c .before .before .before .collect .ensures)))
 
 exec-users-requires : tie.Need-exec-users-requires
-exec-users-requires c κs = (c .before .before .before .before .before .before .before .before .before .before .before .before .pre .0, (c .before .before .before .before .before .before .before .before .before .before .before .before .pre .1, written-front (c .before .before .before .collect .ensures)))
+exec-users-requires c κs =
+    let s = c .before .before .before .before .before .before .before .before .before .before .before .before in
+    (s .pre .0, (s .pre .1, written-front (c .before .before .before .collect .ensures)))
 
 same-length : tie.Need-same-length
 same-length c = search needs
 
 returns-2 : tie.Need-returns-2
 returns-2 c =
+    let executable = c .before .before .before .before .before .before .before .before .before .before .executable in
     let a = c .before .before .before .before .before .before .before .before .before .before .before .before .before .before .before .args in
     visits-as (goalAt (a .t .now) (a .z)) (a .p) (walkOf (a .area .now) (a .w)) (c .before .before .exec-users .ensures)
-    (ap (byUser (a .t .now) (a .z) (a .d) (a .entry) (a .i)) (c .before .before .before .before .before .before .before .before .object-path .ensures)
-    ∙ object-some (a .store .now) (a .t .now) (a .z) (a .d) (a .entry) (a .i)
-    (read (λ (m : ℕ). sees m EXEC) (c .before .before .before .before .before .before .before .before .before .before .before .object-modes .ensures) (c .before .before .before .before .before .before .before .before .before .before .executable .ensures) (not-untrue (c .before .before .before .before .before .before .before .before .before .before .executable .result) (c .before .before .before .before .before .before .before .before .before .if1 .left))))
+    (ap (byUser (a .t .now) (a .z) (a .d) (a .entry) (a .i)) (c .before .before .before .before .before .before .before .before .object-path .ensures) ∙
+    object-some (a .store .now) (a .t .now) (a .z) (a .d) (a .entry) (a .i)
+    (read (λ (m : ℕ). sees m EXEC) (c .before .before .before .before .before .before .before .before .before .before .before .object-modes .ensures) (executable .ensures) (not-false (executable .result) (c .before .before .before .before .before .before .before .before .before .if1 .left))))
 
 pub exec-object-spec : {M : Type 1} → statement M
 exec-object-spec =

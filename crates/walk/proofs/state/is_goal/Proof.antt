@@ -3,7 +3,7 @@
 use borrow.Author.Needs.{needs}
 use mathlib.Core.Path.{refl, _∙_}
 use Rattle.numbered.specs.Candidates.{entryNumber, goalAt}
-use Rattle.walk.proofs.Cells.{digits-celled}
+use Rattle.numbered.proofs.Radix.{digits-celled}
 use Rattle.walk.proofs.state.is_goal.Statement.{statement}
 use Rattle.walk.proofs.state.is_goal.Tie as tie
 

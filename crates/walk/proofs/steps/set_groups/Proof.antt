@@ -1,5 +1,6 @@
 -- `steps::set_groups` meets its contract, by the laws of a loop that visits steps. The measure is what is left of the choices.
 -- Assumes nothing.
+use borrow.Author.Tests.{not-true, not-false}
 use borrow.Author.Needs.{needs}
 use mathlib.Core.Path.{sym, _∙_}
 use Prim.Native.Nat.{ℕ, _-_}
@@ -9,7 +10,7 @@ use Rattle.gran.specs.Access.{has}
 use Rattle.numbered.specs.Candidates.{goalAt, groupStep}
 use Rattle.walk.specs.Needed.{walkOf}
 use Rattle.walk.proofs.Walks.{visits-none, visits-as}
-use Rattle.walk.proofs.Tests.{untrue, not-untrue, read, groups-none, groups-some}
+use Rattle.walk.proofs.Tests.{read, groups-none, groups-some}
 use Rattle.numbered.proofs.Radix.{numberOf-lt}
 use Rattle.walk.proofs.Loops.{Left, begins, turns, ends}
 use Rattle.walk.proofs.Targets.{among-group, inside-group}
@@ -33,7 +34,7 @@ returns c =
     let s = c .before .before .before .before .before .before in
     visits-none (goalAt (s .args .t .now) (s .args .z)) (s .args .p) (walkOf (s .args .area .now) (s .args .w))
     (groups-none (s .args .store .now) (s .args .t .now) (s .args .z) (s .args .d) (s .args .entry)
-    (read (λ (m : ℕ). has m SET-GID) (c .before .before .entry-caps .ensures) (c .before .set-gid .ensures) (untrue (c .before .set-gid .result) (c .if1 .taken))))
+    (read (λ (m : ℕ). has m SET-GID) (c .before .before .entry-caps .ensures) (c .before .set-gid .ensures) (not-true (c .before .set-gid .result) (c .if1 .taken))))
 
 loop-holds : tie.Need-loop-holds Inv-loop μ-loop
 loop-holds c = begins (c .before .before .before .before .before .before .pre .0)
@@ -78,7 +79,7 @@ returns-2 c =
     let s = c .before .before .before .before .before .before .before .before .before in
     visits-as (goalAt (s .args .t .now) (s .args .z)) (s .args .p) (walkOf (s .args .area .now) (s .args .w)) (ends (c .before .before .loop .inv) (c .if2 .left))
     (groups-some (s .args .store .now) (s .args .t .now) (s .args .z) (s .args .d) (s .args .entry)
-    (read (λ (m : ℕ). has m SET-GID) (c .before .before .before .before .before .entry-caps .ensures) (c .before .before .before .before .set-gid .ensures) (not-untrue (c .before .before .before .before .set-gid .result) (c .before .before .before .if1 .left))))
+    (read (λ (m : ℕ). has m SET-GID) (c .before .before .before .before .before .entry-caps .ensures) (c .before .before .before .before .set-gid .ensures) (not-false (c .before .before .before .before .set-gid .result) (c .before .before .before .if1 .left))))
 
 pub set-groups-spec : {M : Type 1} → statement M
 set-groups-spec =

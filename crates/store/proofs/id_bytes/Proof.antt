@@ -1,10 +1,10 @@
--- `writing::encode::id_bytes` meets its contract.
+-- `store::id_bytes` meets its contract.
 -- Assumes nothing.
 use borrow.Author.Needs.{needs}
 use mathlib.Core.Path.{refl}
 use Rattle.store.specs.Layout.{four}
-use Rattle.writing.proofs.encode.id_bytes.Statement.{statement}
-use Rattle.writing.proofs.encode.id_bytes.Tie as tie
+use Rattle.store.proofs.id_bytes.Statement.{statement}
+use Rattle.store.proofs.id_bytes.Tie as tie
 
 cast-t4 : tie.Need-cast-t4
 cast-t4 c = search needs
