@@ -1,1 +1,8 @@
 pub mod Outcomes
+pub mod Bytes
+pub mod Numbers
+pub mod Replays
+pub mod Relending
+pub mod Sharing
+pub mod Verdicts
+pub mod Placed

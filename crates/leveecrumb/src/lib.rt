@@ -1,7 +1,11 @@
-// The door: the ask, for every value of each of its arguments. Rests on all crates below.
-// What a reader must believe of the ask stands in `ask`'s specs/Ask.antt: `AskedAs`.
+// The door: the ask, the replay of a text and the last file, for every value of each of their arguments. Rests on all crates below.
+// What a reader must believe of the ask stands in `ask`'s specs/Ask.antt: `AskedAs`; for C, `CodedAs`; of the other two, in specs/Replaying.antt and specs/Parts.antt.
 ghost use Rattle.ask.specs.Ask.{AskedAs};
 use ask::Answer;
+
+pub mod again;
+pub mod c;
+pub mod last;
 
 // Asks whether the account with this UID and GID, which began in the file `start`, can come to read (kind 0) or write (1) the target.
 // The answer's lines stand in front of the room.
