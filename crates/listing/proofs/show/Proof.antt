@@ -24,17 +24,14 @@ slice-aggregate-ask-3 c = search needs
 slice-aggregate-ask-4 : tie.Need-slice-aggregate-ask-4
 slice-aggregate-ask-4 c = search needs
 
-slice-aggregate-ask-5 : tie.Need-slice-aggregate-ask-5
-slice-aggregate-ask-5 c = search needs
-
 ask-requires : tie.Need-ask-requires
 ask-requires c κs = search needs
 
-value-requires : tie.Need-value-requires
-value-requires c κs = search needs
+tell-requires : tie.Need-tell-requires
+tell-requires c κs = search needs
 
-array-share-prefix-room : tie.Need-array-share-prefix-room
-array-share-prefix-room c = search needs
+slice-reshare-prefix-write-all : tie.Need-slice-reshare-prefix-write-all
+slice-reshare-prefix-write-all c = search needs
 
 slice-aggregate-write-all : tie.Need-slice-aggregate-write-all
 slice-aggregate-write-all c = sym (length-take-le _ _ (search needs))
@@ -42,8 +39,14 @@ slice-aggregate-write-all c = sym (length-take-le _ _ (search needs))
 write-all-requires : tie.Need-write-all-requires
 write-all-requires c κs = search needs
 
+same-length : tie.Need-same-length
+same-length c = search needs
+
 returns : tie.Need-returns
 returns c = search needs
+
+same-length-2 : tie.Need-same-length-2
+same-length-2 c = search needs
 
 returns-2 : tie.Need-returns-2
 returns-2 c = search needs
@@ -58,11 +61,12 @@ show-spec =
     slice-aggregate-ask-2
     slice-aggregate-ask-3
     slice-aggregate-ask-4
-    slice-aggregate-ask-5
     ask-requires
-    value-requires
-    array-share-prefix-room
+    tell-requires
+    slice-reshare-prefix-write-all
     slice-aggregate-write-all
     write-all-requires
+    same-length
     returns
+    same-length-2
     returns-2)

@@ -1,33 +1,31 @@
--- `load_table::report_all` is safe and ends: each text moves the place on.
+-- `report_all` is safe and ends: each case moves the place on.
 -- Assumes nothing.
-use borrow.Author.Needs.{needs}
-use mathlib.Core.Path.{_≡_, refl}
-use Prim.Native.Nat.{_-_, _≤_}
 use native.Mathlib.Omega.{arith}
+use borrow.Author.Needs.{needs}
+use mathlib.Core.Path.{_≡_}
+use Prim.Native.Nat.{_-_}
 use lib.ListN.{length}
+use Rattle.cases.proofs.Inside.{case-inside}
 use Rattle.load_table.proofs.report_all.Statement.{statement}
 use Rattle.load_table.proofs.report_all.Tie as tie
 
 abbrev Inv-loop : tie.InvT-loop
-Inv-loop input store₀ at₀ store at = (at ≤ length input) × (length store ≡ length store₀)
+Inv-loop input store₀ at₀ store at = length store ≡ length store₀
 
 abbrev μ-loop : tie.MeasureT-loop
 μ-loop input store₀ at₀ store at = length input - at
 
 loop-holds : tie.Need-loop-holds Inv-loop μ-loop
-loop-holds c = (omega arith, refl)
+loop-holds c = search needs
 
-add-loop : tie.Need-add-loop Inv-loop μ-loop
-add-loop c = search needs
+next-requires : tie.Need-next-requires Inv-loop μ-loop
+next-requires c κs = search needs
 
-add-end : tie.Need-add-end Inv-loop μ-loop
-add-end c = search needs
+enum-known-from : tie.Need-enum-known-from Inv-loop μ-loop
+enum-known-from c = search needs
 
-size-at-requires : tie.Need-size-at-requires Inv-loop μ-loop
-size-at-requires c κs = search needs
-
-add-end-2 : tie.Need-add-end-2 Inv-loop μ-loop
-add-end-2 c = search needs
+enum-told : tie.Need-enum-told Inv-loop μ-loop
+enum-told c = search needs
 
 same-length : tie.Need-same-length Inv-loop μ-loop
 same-length c = search needs
@@ -35,32 +33,23 @@ same-length c = search needs
 returns : tie.Need-returns Inv-loop μ-loop
 returns c = search needs
 
-add-report : tie.Need-add-report Inv-loop μ-loop
-add-report c = search needs
-
 sub-report : tie.Need-sub-report Inv-loop μ-loop
-sub-report c = search needs
+sub-report c = let h = case-inside (c .before .before .before .before .before .before .before .args .input .now) (c .before .before .before .before .loop .at) (c .before .before .before .next .ensures) (c .before .from .given .1) in omega arith
 
 part-report-start : tie.Need-part-report-start Inv-loop μ-loop
-part-report-start c = search needs
+part-report-start c = let h = case-inside (c .before .before .before .before .before .before .before .args .input .now) (c .before .before .before .before .loop .at) (c .before .before .before .next .ensures) (c .before .from .given .1) in omega arith
 
 part-report-end : tie.Need-part-report-end Inv-loop μ-loop
-part-report-end c = search needs
+part-report-end c = let h = case-inside (c .before .before .before .before .before .before .before .args .input .now) (c .before .before .before .before .loop .at) (c .before .before .before .next .ensures) (c .before .from .given .1) in omega arith
 
 report-requires : tie.Need-report-requires Inv-loop μ-loop
 report-requires c κs = search needs
 
 loop-less : tie.Need-loop-less Inv-loop μ-loop
-loop-less c = search needs
+loop-less c = let h = case-inside (c .before .before .before .before .before .before .before .before .before .before .before .before .args .input .now) (c .before .before .before .before .before .before .before .before .before .loop .at) (c .before .before .before .before .before .before .before .before .next .ensures) (c .before .before .before .before .before .before .from .given .1) in omega arith
 
 loop-again : tie.Need-loop-again Inv-loop μ-loop
 loop-again c = search needs
-
-same-length-2 : tie.Need-same-length-2 Inv-loop μ-loop
-same-length-2 c = search needs
-
-returns-2 : tie.Need-returns-2 Inv-loop μ-loop
-returns-2 c = search needs
 
 pub report-all-spec : {M : Type 1} → statement M
 report-all-spec =
@@ -69,18 +58,14 @@ report-all-spec =
     Inv-loop
     μ-loop
     loop-holds
-    add-loop
-    add-end
-    size-at-requires
-    add-end-2
+    next-requires
+    enum-known-from
+    enum-told
     same-length
     returns
-    add-report
     sub-report
     part-report-start
     part-report-end
     report-requires
     loop-less
-    loop-again
-    same-length-2
-    returns-2)
+    loop-again)
