@@ -1,6 +1,8 @@
 //! The whole ask: refusals in their order, the answer's lines.
 
-use crate::policy::{is_path, load, number, Refusal, NOBODY, PATH_BYTES_MOST};
+use crate::layout;
+use crate::lines::{number, take_line, write_line};
+use crate::policy::{is_path, load, Policy, Refusal, NOBODY, PATH_BYTES_MOST};
 use crate::replay::Step;
 use crate::search::search;
 
@@ -40,7 +42,7 @@ pub struct Question<'a> {
     pub gid: u32,
     pub start: &'a [u8],
     pub target: &'a [u8],
-    pub kind: u32,
+    pub kind: u8,
 }
 
 impl Question<'_> {
@@ -103,22 +105,12 @@ impl Found {
     }
 }
 
-/// Writes one line: hexadecimal digits and LF.
-pub fn write_line(lines: &mut Vec<u8>, parts: &[&[u8]]) {
-    const DIGITS: &[u8; 16] = b"0123456789abcdef";
-    for byte in parts.iter().copied().flatten() {
-        lines.push(DIGITS[(byte >> 4) as usize]);
-        lines.push(DIGITS[(byte & 15) as usize]);
-    }
-    lines.push(b'\n');
-}
-
 /// Reads the steps back from an answer's lines.
 pub fn steps_of(answer: &[u8]) -> Vec<Step> {
     let mut steps = Vec::new();
     let mut rest = answer;
-    while let Some((frame, next)) = crate::policy::take_line(rest) {
-        let bytes = frame.bytes();
+    while let Some((line, next)) = take_line(rest) {
+        let bytes = line.bytes();
         let mut step = Step {
             kind: bytes[0],
             ..Step::default()
@@ -142,27 +134,22 @@ pub fn steps_of(answer: &[u8]) -> Vec<Step> {
     steps
 }
 
-/// The ask with its nine parts, a store, a work area and a room given by their lengths.
-#[allow(clippy::too_many_arguments)]
-pub fn ask(
+/// An accepted text, and what the search finds in it.
+#[derive(Clone, Debug)]
+pub struct Accepted {
+    pub policy: Policy,
+    pub found: Found,
+}
+
+/// The ask up to its room: refusals 1 to 16, or the policy and what is found. The work area's length is in
+/// numbers.
+pub fn weigh(
     text: &[u8],
     store_len: usize,
     work_len: usize,
-    room_len: usize,
-    uid: u32,
-    gid: u32,
-    start: &[u8],
-    target: &[u8],
-    kind: u32,
-) -> Outcome {
-    let question = Question {
-        uid,
-        gid,
-        start,
-        target,
-        kind,
-    };
-    let refuse = |number| Refusal { number, line: 0 }.into();
+    question: &Question,
+) -> Result<Accepted, Refusal> {
+    let refuse = |number| Err(Refusal { number, line: 0 });
     if text.len() > TEXT_MOST {
         return refuse(1);
     }
@@ -175,22 +162,70 @@ pub fn ask(
     if let Some(number) = question.fault() {
         return refuse(number);
     }
-    let policy = match load(text) {
-        Ok(policy) => policy,
-        Err(refusal) => return refusal.into(),
+    let policy = load(text)?;
+    let found = search(&policy, question);
+    Ok(Accepted { policy, found })
+}
+
+/// The ask with its nine parts, a store, a work area and a room given by their lengths.
+#[allow(clippy::too_many_arguments)]
+pub fn ask(
+    text: &[u8],
+    store_len: usize,
+    work_len: usize,
+    room_len: usize,
+    uid: u32,
+    gid: u32,
+    start: &[u8],
+    target: &[u8],
+    kind: u8,
+) -> Outcome {
+    let question = Question {
+        uid,
+        gid,
+        start,
+        target,
+        kind,
     };
-    let found = search(&policy, &question);
-    let needed = found.bytes();
-    if needed > room_len {
-        return Outcome {
-            number: 17,
-            value: needed as u32,
-            answer: Vec::new(),
-        };
+    match weigh(text, store_len, work_len, &question) {
+        Ok(accepted) => answered(&accepted.found, room_len),
+        Err(refusal) => refusal.into(),
     }
+}
+
+/// The answer of an accepted ask, or refusal 17.
+pub fn answered(found: &Found, room_len: usize) -> Outcome {
+    let needed = found.bytes();
+    let fits = needed <= room_len;
     Outcome {
-        number: 0,
+        number: if fits { 0 } else { 17 },
         value: needed as u32,
-        answer: found.lines(),
+        answer: if fits { found.lines() } else { Vec::new() },
+    }
+}
+
+/// What an ask is lent: a store, a work area of bytes, two a number, and a room.
+pub struct Lent<'a> {
+    pub store: &'a mut [u8],
+    pub work: &'a mut [u8],
+    pub room: &'a mut [u8],
+}
+
+/// The ask with all that it leaves in the lent areas: number, and value as in an outcome.
+pub fn ask_lent(text: &[u8], lent: Lent, question: &Question) -> (u8, u32) {
+    match weigh(text, lent.store.len(), lent.work.len() / 2, question) {
+        Ok(Accepted { policy, found }) => {
+            layout::write(&policy, lent.store);
+            lent.work[..2 * WORK_LEAST].fill(0);
+            let outcome = answered(&found, lent.room.len());
+            lent.room[..outcome.answer.len()].copy_from_slice(&outcome.answer);
+            (outcome.number, outcome.value)
+        }
+        Err(Refusal { number, line }) => {
+            if number > 6 {
+                lent.store[..STORE_LEAST].fill(0);
+            }
+            (number, line)
+        }
     }
 }

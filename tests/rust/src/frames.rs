@@ -1,6 +1,6 @@
 //! Frames and texts.
 
-use crate::ask::write_line;
+use crate::lines::write_line;
 use crate::policy;
 
 pub type Frame = Vec<u8>;

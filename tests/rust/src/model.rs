@@ -65,7 +65,7 @@ pub fn may_exec(modes: u8) -> bool {
 }
 
 /// Kind 0 asks for read, 1 for write.
-pub fn grants(modes: u8, kind: u32) -> bool {
+pub fn grants(modes: u8, kind: u8) -> bool {
     let asked = if kind == 0 { READ } else { WRITE };
     modes & asked != 0 && modes & HIDE == 0
 }
@@ -133,7 +133,7 @@ pub fn step<'a>(policy: &Policy, state: Real<'a>, what: Move<'a>) -> Option<Real
 }
 
 /// Whether the access is granted in a real state.
-pub fn access(policy: &Policy, state: Real, target: &[u8], kind: u32) -> bool {
+pub fn access(policy: &Policy, state: Real, target: &[u8], kind: u8) -> bool {
     let entry = state.entry(policy);
     let object = policy.objects(entry)[object_for(policy, entry, target)];
     grants(object.modes, kind)
@@ -286,7 +286,7 @@ pub fn abstract_steps(policy: &Policy, state: &Abstract) -> Vec<(Label, Abstract
 }
 
 /// Whether the access is granted in an abstract state.
-pub fn abstract_access(policy: &Policy, state: &Abstract, target: &[u8], kind: u32) -> bool {
+pub fn abstract_access(policy: &Policy, state: &Abstract, target: &[u8], kind: u8) -> bool {
     let entry = abstract_entry(policy, state);
     let object = policy.objects(entry)[object_for(policy, entry, target)];
     grants(object.modes, kind)

@@ -1,7 +1,7 @@
 //! The program's work: an input of question lines and policy, and what is printed.
 
-use crate::ask::{ask, write_line, STORE_LEAST, TEXT_MOST, WORK_LEAST};
-use crate::policy::{number, take_line, DIGITS_MOST};
+use crate::ask::{ask, STORE_LEAST, TEXT_MOST, WORK_LEAST};
+use crate::lines::{number, take_line, write_line, DIGITS_MOST};
 
 pub const ROOM: usize = 49_152;
 
@@ -32,7 +32,7 @@ pub fn pathcheck(input: &[u8]) -> Vec<u8> {
         }
     }
     let (uid, gid) = (number(&parts[0][1..5]), number(&parts[0][5..9]));
-    let kind = parts[0][0].into();
+    let kind = parts[0][0];
     let (start, target) = (&parts[1], &parts[2]);
     let outcome = ask(
         rest,

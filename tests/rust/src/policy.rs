@@ -1,5 +1,7 @@
 //! The policy as hexadecimal lines: loading, with refusals 7 to 16.
 
+use crate::lines::{number, take_line};
+
 pub const USERS_MOST: usize = 15;
 pub const GROUPS_MOST: usize = 7;
 pub const SPECIALS_MOST: usize = 7;
@@ -10,7 +12,6 @@ pub const OBJECTS_MOST: usize = 512;
 pub const IDS_MOST: usize = 16;
 pub const STATES_MOST: usize = 8_192;
 pub const PATH_BYTES_MOST: usize = 64;
-pub const DIGITS_MOST: usize = 160;
 
 /// The id that names nobody.
 pub const NOBODY: u32 = u32::MAX;
@@ -59,6 +60,18 @@ pub enum Kind {
     Group,
     Special,
     Default,
+}
+
+impl Kind {
+    /// The byte that stands for it in a frame.
+    pub fn byte(self) -> u8 {
+        match self {
+            Kind::User => b'u',
+            Kind::Group => b'g',
+            Kind::Special => b's',
+            Kind::Default => b'-',
+        }
+    }
 }
 
 #[derive(Clone, Copy, Debug, PartialEq, Eq)]
@@ -145,6 +158,8 @@ pub struct Entry {
 pub struct Policy {
     pub roles: Vec<Role>,
     pub paths: Vec<Path>,
+    /// Transitions in the text's order: a role, and a special role that it may take.
+    pub moves: Vec<(u8, u8)>,
     pub entries: Vec<Entry>,
     objects: Vec<Object>,
     /// Number of the default role.
@@ -201,51 +216,6 @@ fn check(number: u8, good: bool) -> Result<(), u8> {
     } else {
         Err(number)
     }
-}
-
-fn digit(byte: u8) -> Option<u8> {
-    match byte {
-        b'0'..=b'9' => Some(byte - b'0'),
-        b'a'..=b'f' => Some(byte - b'a' + 10),
-        _ => None,
-    }
-}
-
-/// A decoded line: its bytes stand in front.
-pub struct Frame {
-    bytes: [u8; DIGITS_MOST / 2],
-    len: usize,
-}
-
-impl Frame {
-    pub fn bytes(&self) -> &[u8] {
-        &self.bytes[..self.len]
-    }
-}
-
-/// Takes the first line off a text that is not empty: its frame and what follows. None: the line's form is
-/// bad (empty, odd, too long, another byte, no LF).
-pub fn take_line(text: &[u8]) -> Option<(Frame, &[u8])> {
-    let end = text
-        .iter()
-        .take(DIGITS_MOST + 1)
-        .position(|b| *b == b'\n')?;
-    if end == 0 || end % 2 == 1 {
-        return None;
-    }
-    let mut frame = Frame {
-        bytes: [0; DIGITS_MOST / 2],
-        len: end / 2,
-    };
-    for (byte, pair) in frame.bytes.iter_mut().zip(text[..end].chunks_exact(2)) {
-        *byte = digit(pair[0])? << 4 | digit(pair[1])?;
-    }
-    Some((frame, &text[end + 1..]))
-}
-
-/// A number of 2 or 4 bytes, the first the highest.
-pub fn number(bytes: &[u8]) -> u32 {
-    bytes.iter().fold(0, |n, b| n << 8 | *b as u32)
 }
 
 /// Whether a frame of type `next` may follow one of type `last` (None: be the first).
@@ -337,6 +307,7 @@ impl Loader {
         let takes = &mut roles[role as usize].takes;
         check(11, *takes >> special & 1 == 0)?;
         *takes |= 1 << special;
+        self.policy.moves.push((role, special));
         Ok(())
     }
 
@@ -405,6 +376,7 @@ pub fn load(text: &[u8]) -> Result<Policy, Refusal> {
         policy: Policy {
             roles: Vec::with_capacity(ROLES_MOST),
             paths: Vec::with_capacity(PATHS_MOST),
+            moves: Vec::new(),
             entries: Vec::with_capacity(ENTRIES_MOST),
             objects: Vec::with_capacity(OBJECTS_MOST),
             default: 0,

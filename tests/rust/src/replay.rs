@@ -1,13 +1,16 @@
-//! Replay: step records walked against the real steps.
+//! Replay: step records walked against the real steps; the last file's path.
 
 use crate::ask::{Question, EXECUTE, SET_GROUP, SET_USER, STORE_LEAST, TAKE_SPECIAL, TEXT_MOST};
+use crate::layout;
 use crate::model::{access, object_for, step, Move, Real};
 use crate::policy::{load, Policy, Refusal};
 
 /// No role, no file.
 pub const NONE: u8 = 255;
 
-/// A step record. Fields that a kind does not use are 0.
+/// A step record. Fields that a kind does not use are 0. It lies in memory as C lays it, so that a row of them
+/// can be lent through the library's door.
+#[repr(C)]
 #[derive(Clone, Copy, Debug, Default, PartialEq, Eq)]
 pub struct Step {
     pub kind: u8,
@@ -120,5 +123,16 @@ pub fn replay(text: &[u8], store_len: usize, question: &Question, steps: &[Step]
     match load(text) {
         Ok(policy) => walk(&policy, question, steps),
         Err(refusal) => Replayed::Refused(refusal),
+    }
+}
+
+/// The last file's path by its number: the start, or a part of the store. An empty part is in front of it.
+pub fn last_file<'a>(start: &'a [u8], store: &'a [u8], number: u8) -> &'a [u8] {
+    if number == NONE {
+        return start;
+    }
+    match layout::path(store, number) {
+        Some(path) if !path.is_empty() => path,
+        _ => &store[..0],
     }
 }

@@ -3,7 +3,8 @@
 use second::ask::{ask, steps_of, Outcome, STORE_LEAST, TEXT_MOST, WORK_LEAST};
 use second::clock::clock;
 use second::frames::text;
-use second::load_cases::{fullest, many_states, LISTING};
+use second::large::{fullest, many_states};
+use second::load_cases::LISTING;
 use second::pathcheck::{pathcheck, INPUT_MOST};
 use second::replay::{replay, Replayed};
 use std::io::Write;
@@ -12,7 +13,7 @@ use std::process::{Command, Stdio};
 const QUESTION: &str = "6001000003e800000064\n612f\n622f6574632f6e74702f\n";
 const ANSWER: &str = "800100020002\n8102\n840101000003e800000064\n";
 
-fn asked(room: usize, uid: u32, kind: u32) -> Outcome {
+fn asked(room: usize, uid: u32, kind: u8) -> Outcome {
     let text = LISTING.as_bytes();
     ask(
         text,
@@ -203,6 +204,24 @@ fn load_cases_in_files() {
         rest = next;
     }
     assert!(rest.is_empty() && pairs.next().is_none());
+}
+
+/// The stored row of inputs and what is printed for them are what the samples give, and Rattle's program reads all of it.
+#[test]
+fn samples_as_stored() {
+    let folder = std::path::Path::new(env!("CARGO_TARGET_TMPDIR"));
+    let (inputs, outputs) = (folder.join("inputs"), folder.join("outputs"));
+    let mut program = Command::new(env!("CARGO_BIN_EXE_samples"));
+    assert!(program
+        .args([&inputs, &outputs])
+        .status()
+        .unwrap()
+        .success());
+    let stored = std::path::Path::new(env!("CARGO_MANIFEST_DIR")).join("../../crates/sample");
+    let inputs = std::fs::read(inputs).unwrap();
+    assert!(inputs.len() <= 131_072);
+    assert!(inputs == std::fs::read(stored.join("stdin")).unwrap());
+    assert!(std::fs::read(outputs).unwrap() == std::fs::read(stored.join("stdout")).unwrap());
 }
 
 #[test]

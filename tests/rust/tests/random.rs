@@ -2,9 +2,10 @@
 
 use second::ask::{ask, steps_of, Question, STORE_LEAST, WORK_LEAST};
 use second::finite::fewest_steps;
-use second::generator::{case, damage, damage_steps, Case, Random, Size};
+use second::generator::{case, damage, damage_steps, Case, Size};
 use second::model;
 use second::policy::{load, Kind, Policy, SET_GID, SET_UID};
+use second::random::Random;
 use second::replay::{replay, walk, Replayed, Step};
 use second::search::search;
 use second::{plain, tables::Tables};
