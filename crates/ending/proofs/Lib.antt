@@ -1,3 +1,4 @@
 pub mod Roots
 pub mod Stored
+pub mod Marks
 pub mod Crowd

@@ -12,7 +12,7 @@ use borrow.Author.Tests.{ne-eqb}
 use lib.Dec.{eqb, ltb}
 use lib.ListN.{length, getD, drop, drop-of-length-le}
 use lib.Seq.{drop-cons}
-use Rattle.paths.specs.Path.{slash, goodPath, isPath}
+use Rattle.paths.specs.Path.{slash, isSlash, goodPath, isPath}
 use Rattle.paths.proofs.Bools.{left, or-left, or-right, iff-≡, eqb-of, eqb-to}
 use Rattle.paths.proofs.Paths.{same→≡}
 use Rattle.gran.specs.Lists.{none, any, only, place, member, numbers, All}
@@ -21,7 +21,7 @@ use Rattle.gran.specs.Match.{noEntry, subjectPath, objectPath, ofRole, isEntry,
 use Rattle.gran.specs.Role.{ofKind}
 use Rattle.gran.specs.Good.{isRoot, rolesOf, statesOf}
 use Rattle.gran.proofs.Lists.{all-at, distinct-at, place-is, place-any, numbers-next, numbers-end}
-use Rattle.store.specs.Layout.{isSlash, rootOf}
+use Rattle.store.specs.Layout.{rootOf}
 use Rattle.policy.specs.Load.{lacksEntry, lacksObject, unrooted}
 use Rattle.ending.specs.End.{endRefusal}
 use Rattle.policy.specs.Sound.{SoundObject, SoundEntry, SoundPolicy}

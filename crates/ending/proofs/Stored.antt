@@ -1,21 +1,22 @@
 -- What the store says of the policy that lies there: how long each path is, which entries there are, which objects an entry has.
 -- Assumes nothing.
-use mathlib.Core.Path.{_≡_, _∙_, refl, sym}
-use mathlib.Core.Bool.{and-true}
+use mathlib.Core.Path.{_≡_, _∙_, refl, sym, ap}
 use mathlib.Core.List.{List, [], _∷_, _++_, map, append-assoc}
 use Prim.Native.Nat.{ℕ, zero, suc, _+_, _-_, _*_, _≤_, _<_}
 use native.Mathlib.Nat.{not-suc-le-zero, le-of-suc-le-suc, add-assoc, add-sub-cancel-left}
 use native.Mathlib.Omega.{arith}
 use lib.Dec.{eqb}
-use lib.ListN.{length, getD, take, drop}
+use lib.ListN.{length, getD, take, drop, length-map}
+use Rattle.paths.specs.Path.{isSlash}
 use Rattle.lines.specs.Line.{zeros}
 use Rattle.lines.proofs.Rooms.{length-zeros}
-use Rattle.rows.specs.Rows.{joined, padded, rowsOf, beginsWith, hasRow}
+use Rattle.rows.specs.Rows.{joined, padded, rowsOf, hasRow}
+use Rattle.rows.proofs.Tables.{map-at}
 use Rattle.rows.proofs.Parts.{lies-behind}
 use Rattle.gran.specs.Lists.{member}
 use Rattle.gran.specs.Policy.{Policy, Entry}
-use Rattle.gran.specs.Match.{noEntry, subjectPath, subjects, isSubject, objectsOf}
-use Rattle.store.specs.Layout.{two, isSlash, objectRow, entryRow, entryRows, allObjects, allIds, idsAt}
+use Rattle.gran.specs.Match.{noEntry, subjectPath, subjects, objectsOf}
+use Rattle.store.specs.Layout.{two, objectRow, entryRow, allObjects, allIds, idsAt}
 use Rattle.store.specs.Held.{Bounded, Fits, Holds}
 use Rattle.store.specs.declared.Tally.{Tally}
 use Rattle.store.proofs.Entries.{objects-within}
@@ -25,13 +26,7 @@ use Rattle.store.proofs.Holding.{holds-fits}
 use Rattle.policy.specs.Sound.{SoundPolicy}
 use Rattle.ending.proofs.Roots.{root-here}
 use Rattle.judge.proofs.Rows.{joined-map, Starts, starts-front, starts-skip, starts-taken, rows-length, starts-read, found-objects}
-use Rattle.judge.proofs.Places.{entries-read}
 use Rattle.judge.proofs.Found.{path-size}
-
-found-subjects : (s object id : ℕ) (es : List Entry) → hasRow (s ∷ []) (entryRows object id es) ≡ member s (map subjectPath es)
-unfolding hasRow beginsWith entryRow entryRows
-found-subjects s object id [] = refl
-found-subjects s object id (e ∷ es) = rw (found-subjects s _ _ es, and-true (eqb s (e .subject)))
 
 -- the objects of entry n between those of the others
 objects-split : (es : List Entry) (n : ℕ) → n < length es → allObjects es ≡ allObjects (take n es) ++ (getD es n noEntry .objects ++ allObjects (drop (suc n) es))
@@ -47,14 +42,18 @@ module _ (P : Policy) (rest : List ℕ) (t : Tally) (bytes : List ℕ) (b : Boun
   pub slash-read : SoundPolicy P → (n : ℕ) → n < length (P .paths) → isSlash (getD (P .paths) n []) ≡ eqb (getD bytes (676 + n * 3 + 2) 0) 1
   slash-read sound n l = root-here P sound n l ∙ rw (path-size P rest t bytes b h n l)
 
-  pub found-subject : (s : ℕ) → hasRow (s ∷ []) (rowsOf 12 (t .entries) (take 768 (drop 1156 bytes))) ≡ isSubject P s
+  pub subjects-long : length (subjects P) ≡ t .entries
   unfolding subjects
-  found-subject s = rw (entries-read P rest t bytes b h) (found-subjects s 0 (idsAt P) (P .entries))
+  subjects-long = length-map (P .entries) subjectPath ∙ sym (h .entries)
 
-  -- the row of entry n: where its objects are, and how many
+  -- the row of entry n: its subject, where its objects are, and how many
   module _ (n : ℕ) (l : n < length (P .entries)) where
     entry-at : (k : ℕ) → k < 12 → getD bytes (1156 + n * 12 + k) 0 ≡ getD (entryRow (length (allObjects (take n (P .entries)))) (idsAt P + 4 * length (allIds (take n (P .entries)))) (getD (P .entries) n noEntry)) k 0
     entry-at k m = rw (add-assoc 1156 (n * 12) k) (entry-byte P (zeros 16) rest bytes fits (length-zeros 16) (h .stored) n k l m)
+
+    pub subject-at : getD bytes (1156 + n * 12) 0 ≡ getD (subjects P) n 0
+    unfolding entryRow subjects
+    subject-at = ap (λ (i : ℕ). getD bytes i 0) (omega arith) ∙ entry-at 0 (omega arith) ∙ sym (map-at subjectPath (P .entries) n noEntry 0 l)
 
     pub object-count : getD bytes (1156 + n * 12 + 7) 0 ≡ length (getD (P .entries) n noEntry .objects)
     unfolding entryRow two

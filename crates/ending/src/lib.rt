@@ -2,8 +2,8 @@
 // Rests on `rows`, `gran`, `store`, `writing`, `policy` and `judge`. What a reader must believe stands in specs/End.antt: `endRefusal`, `Settled`.
 ghost use mathlib.Core.Path.{_≡_};
 ghost use mathlib.Core.List.{List};
-ghost use Prim.Native.Nat.{ℕ, _+_, _*_, _≤_, _<_};
-ghost use lib.Dec.{ltb};
+ghost use Prim.Native.Nat.{ℕ, _≤_, _<_};
+ghost use lib.Dec.{eqb, ltb};
 ghost use lib.ListN.{length, getD};
 ghost use Rattle.gran.specs.Lists.{any, member, numbers};
 ghost use Rattle.gran.specs.Policy.{Policy};
@@ -31,17 +31,6 @@ pub fn root_of(store: &[u8], t: Tally) -> u8
         i += 1;
     }
     255
-}
-
-// Whether there is an entry of this subject path.
-fn has_subject(store: &[u8], t: Tally, subject: u8) -> bool
-    requires { ⌜ Bounded t ⌝ }
-    requires { ⌜ 16384 ≤ length (now store) ⌝ }
-    ensures { λ r. ⌜ Answers t (now (store .entry)) (λ (P : Policy). r ≡ isSubject P subject) ⌝ }
-{
-    let key = [subject];
-    let count = t.entries;
-    rows::has_row(&store[1156..1924], 12, count, &key)
 }
 
 // Whether entry `number` has an object of this path.
@@ -110,18 +99,35 @@ pub fn is_unrooted(store: &[u8], t: Tally, root: u8) -> bool
     lacks_object(store, t, root)
 }
 
+// The paths of S: 1 at the number of each, 0 at every other byte's value.
+fn subject_marks(store: &[u8], t: Tally) -> [u8; 256]
+    requires { ⌜ Bounded t ⌝ }
+    requires { ⌜ 16384 ≤ length (now store) ⌝ }
+    ensures { λ r. ⌜ Answers t (now (store .entry)) (λ (P : Policy). (s : ℕ) → isSubject P s ≡ eqb (getD r s 0) 1) ⌝ }
+{
+    let mut marks = [0u8; 256];
+    let mut i = 0;
+    while i < t.entries {
+        let subject = wide(store[1156 + i * 12]);
+        marks[subject] = 1;
+        i += 1;
+    }
+    marks
+}
+
 // How many paths S has.
 pub fn subjects_in(store: &[u8], t: Tally) -> u8
     requires { ⌜ Bounded t ⌝ }
     requires { ⌜ 16384 ≤ length (now store) ⌝ }
     ensures { λ r. ⌜ Answers t (now (store .entry)) (λ (P : Policy). r ≡ length (pathsOfS P)) ⌝ }
 {
+    let marks = subject_marks(store, t);
     let mut count = 0u8;
     let mut i = 0;
     while i < t.paths {
-        let number = i as u8;
+        let mark = marks[i];
         i += 1;
-        if has_subject(store, t, number) {
+        if mark == 1 {
             count += 1;
         }
     }

@@ -1,18 +1,16 @@
 -- What each search of the store says of the policy that lies there.
 -- Assumes nothing.
 use mathlib.Core.Path.{_≡_, _∙_, ap}
-use mathlib.Core.Bool.{or-false}
 use mathlib.Core.List.{List, [], _∷_, map}
 use Prim.Native.Nat.{ℕ, _+_, _-_, _*_, _/_, _%_, _≤_, _<_}
-use native.Mathlib.Nat.{add-assoc, add-sub-cancel-left, le-refl}
+use native.Mathlib.Nat.{add-assoc, add-sub-cancel-left}
 use native.Mathlib.Omega.{arith}
 use lib.Dec.{eqb}
 use lib.ListN.{length, getD, take, drop}
-use lib.Seq.{take-take}
 use Rattle.paths.specs.Path.{same}
 use Rattle.lines.specs.Line.{zeros}
 use Rattle.lines.proofs.Rooms.{length-zeros}
-use Rattle.rows.specs.Rows.{joined, rowsOf, hasRow}
+use Rattle.rows.specs.Rows.{joined, rowsOf, beginsWith, hasRow}
 use Rattle.gran.specs.Lists.{any, member, All}
 use Rattle.gran.specs.Policy.{Policy, Entry, noId}
 use Rattle.gran.specs.Match.{noEntry, objectsOf, isEntry}
@@ -98,8 +96,7 @@ module _ (P : Policy) (rest : List ℕ) (t : Tally) (bytes : List ℕ) (b : Boun
 
     -- the bytes there are the path's
     pub path-same : (path : List ℕ) (at size : ℕ) → at ≡ 2948 + length (joined (take n (P .paths))) → size ≡ length (getD (P .paths) n []) → length path ≡ size →
-        hasRow path (rowsOf size 1 (take (at + size - at) (drop at bytes))) ≡ same path (getD (P .paths) n [])
-    unfolding hasRow rowsOf
+        beginsWith path (take (at + size - at) (drop at bytes)) ≡ same path (getD (P .paths) n [])
     path-same path at size e f g =
-        rw (add-sub-cancel-left, take-take size size (drop at bytes) (le-refl size), e, f, path-part P (zeros 16) rest bytes (holds-fits P rest t bytes h b) (length-zeros 16) (h .stored) n)
-        (or-false _ ∙ begins-same path (getD (P .paths) n []) (g ∙ f))
+        rw (add-sub-cancel-left, e, f, path-part P (zeros 16) rest bytes (holds-fits P rest t bytes h b) (length-zeros 16) (h .stored) n)
+        (begins-same path (getD (P .paths) n []) (g ∙ f))

@@ -2,7 +2,7 @@
 // Rests on `paths`, `lines`, `rows`, `gran`, `store` and `policy`. What a reader must believe stands in specs/Judge.antt: `Answers`.
 ghost use mathlib.Core.Path.{_≡_};
 ghost use mathlib.Core.List.{List};
-ghost use Prim.Native.Nat.{ℕ, _<_, _≤_};
+ghost use Prim.Native.Nat.{ℕ, _≤_};
 ghost use lib.ListN.{length};
 ghost use Rattle.gran.specs.Policy.{Policy};
 ghost use Rattle.store.specs.Held.{Bounded, Holds};

@@ -1,7 +1,7 @@
 // Whether the fields of a frame are in range, with the policy so far: refusal 10.
 ghost use mathlib.Core.Path.{_≡_};
 ghost use mathlib.Core.List.{List};
-ghost use Prim.Native.Nat.{ℕ, _<_, _≤_};
+ghost use Prim.Native.Nat.{ℕ, _≤_};
 ghost use lib.ListN.{length};
 ghost use Rattle.gran.specs.Policy.{Policy, Allowed};
 ghost use Rattle.store.specs.Held.{Bounded, Holds};

@@ -113,7 +113,7 @@ pub fn is_path(store: &[u8], number: usize, path: &[u8]) -> bool
     if store.len() < end {
         return false;
     }
-    rows::has_row(&store[at..end], size, 1, path)
+    rows::is_same(&store[at..end], path)
 }
 
 // This path.

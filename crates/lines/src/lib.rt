@@ -17,23 +17,23 @@ pub struct Frame {
     pub bytes: [u8; 80],
 }
 
-// A digit's value, or 16 for a byte that is no digit.
+// A digit's value, or 16 for a byte that is no digit. One sum serves 0 to 9 and a to f: which comes next cannot be foreseen.
 fn hex_value(b: u8) -> u16
     ensures { λ r. ⌜ r ≡ hexValue b ⌝ }
 {
     if b < b'0' {
         return 16;
     }
-    if b <= b'9' {
-        return b as u16 - 48;
-    }
-    if b < b'a' {
+    if b'f' < b {
         return 16;
     }
-    if b <= b'f' {
-        return b as u16 - 87;
+    if b'9' < b {
+        if b < b'a' {
+            return 16;
+        }
     }
-    16
+    let value = b as u16;
+    value % 16 + 9 * (value / 64)
 }
 
 // The byte that two digits stand for, or 256 where one of them is no digit.
@@ -41,10 +41,10 @@ fn pair_value(a: u8, b: u8) -> u16
     ensures { λ r. ⌜ r ≡ pairValue a b ⌝ }
 {
     let high = hex_value(a);
-    let low = hex_value(b);
     if 15 < high {
         return 256;
     }
+    let low = hex_value(b);
     if 15 < low {
         return 256;
     }

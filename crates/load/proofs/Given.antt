@@ -14,7 +14,7 @@ use Rattle.gran.specs.Policy.{Object, Entry}
 use Rattle.gran.specs.Match.{objectPath, objectsOf}
 use Rattle.gran.proofs.Counting.{few-below}
 use Rattle.store.specs.Held.{lastEntry}
-use Rattle.store.specs.Grow.{KnownKind}
+use Rattle.gran.specs.Good.{KnownKind}
 use Rattle.policy.specs.Frames.{typeOf, roleFrom, pathFrom, inRange, isFull}
 use Rattle.policy.specs.Load.{Load}
 use Rattle.policy.specs.Sound.{SoundObject, SoundEntry, Sound}

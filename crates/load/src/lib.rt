@@ -1,7 +1,6 @@
 // Loads a policy's text, line by line, into a lent store, or gives a refusal with its line.
 // Rests on `lines`, `rows`, `store`, `writing`, `policy`, `judge` and `ending`. What a reader must believe stands in `policy`'s
 // specs/Load.antt: `LoadedAs`. The promises of the steps between stand in specs/Step.antt.
-ghost use mathlib.Core.Path.{_≡_};
 ghost use Prim.Native.Nat.{_≤_, _<_};
 ghost use lib.ListN.{length};
 ghost use Rattle.policy.specs.Load.{LoadedAs};

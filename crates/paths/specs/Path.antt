@@ -55,6 +55,10 @@ same [] (c ∷ cs) = false
 same (b ∷ bs) [] = false
 same (b ∷ bs) (c ∷ cs) = eqb b c && same bs cs
 
+-- The path `/`.
+abbrev pub isSlash : List ℕ → Bool
+isSlash p = same p (slash ∷ [])
+
 -- The names qs are the first of the names ps.
 abbrev pub first : List (List ℕ) → List (List ℕ) → Bool
 first [] ps = true

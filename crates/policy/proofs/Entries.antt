@@ -20,9 +20,9 @@ use Rattle.gran.specs.Good.{GoodIds}
 use Rattle.gran.proofs.Lists.{length-more}
 use Rattle.store.specs.Layout.{allObjects}
 use Rattle.store.specs.Held.{lastEntry}
-use Rattle.store.specs.Grow.{onLast, listing, addObject, addUid, addGid}
+use Rattle.store.specs.Grow.{unlisted, onLast, listing, addObject, addUid, addGid}
 use Rattle.store.proofs.Growing.{objects-more, changed-length}
-use Rattle.policy.specs.Frames.{goodMove, goodEntry, goodObject, goodId, unlisted, byteAt, entryFrom}
+use Rattle.policy.specs.Frames.{goodMove, goodEntry, goodObject, goodId, byteAt, entryFrom}
 use Rattle.policy.specs.Sound.{SoundPaths, SoundMove, SoundMoves, SoundObject, SoundEntry, SoundEntries, SoundPolicy, entryKey}
 use Rattle.policy.proofs.More.{map-more, all-more, all-map, all-apart, distinct-more}
 

@@ -15,6 +15,7 @@ use Rattle.gran.specs.Role.{ofKind, noRole, isRole, isMove}
 use Rattle.gran.specs.Good.{rolesOf}
 use Rattle.store.specs.Layout.{allObjects}
 use Rattle.store.specs.Held.{lastEntry}
+use Rattle.store.specs.Grow.{newEntry}
 
 -- ---- fields
 
@@ -52,18 +53,8 @@ abbrev pub moveFrom : Frame → Move
 moveFrom f = record { role = byteAt f 1; special = byteAt f 2 }
 
 -- 40: role, subject path, capabilities, user mode, group mode; objects and ids come with later frames.
-abbrev pub unlisted : ℕ → Allowed
-unlisted mode = record { mode = mode; ids = [] }
-
 abbrev pub entryFrom : Frame → Entry
-entryFrom f = record {
-  role = byteAt f 1;
-  subject = byteAt f 2;
-  caps = byteAt f 3;
-  users = unlisted (byteAt f 4);
-  groups = unlisted (byteAt f 5);
-  objects = [];
-}
+entryFrom f = newEntry (byteAt f 2) (byteAt f 1) (byteAt f 3) (byteAt f 4) (byteAt f 5)
 
 -- 41: object path, modes.
 abbrev pub objectFrom : Frame → Object

@@ -14,7 +14,7 @@ use Rattle.gran.specs.Match.{subjectsOf, objectsOf}
 use Rattle.gran.specs.Role.{ofKind}
 use Rattle.gran.specs.Good.{isRoot, statesOf}
 use Rattle.store.specs.Layout.{layout}
-use Rattle.store.specs.Grow.{withRole, withPath, withMove, withEntry, withObject, withUid, withGid}
+use Rattle.store.specs.Grow.{noPolicy, withRole, withPath, withMove, withEntry, withObject, withUid, withGid}
 use Rattle.policy.specs.Frames.{typeOf, isType, roleFrom, pathFrom, moveFrom, entryFrom, objectFrom, idFrom, frameTable, fitsTable, mayFollow, inRange, isSecond, isFull, miscounts}
 
 -- ---- one line
@@ -27,7 +27,7 @@ pub record Load : Type 0 where
 
 -- Nothing yet.
 abbrev pub start : Load
-start = record { policy = record { roles = []; paths = []; moves = []; entries = [] }; last = 0; lines = 0 }
+start = record { policy = noPolicy; last = 0; lines = 0 }
 
 -- The policy with what a frame says; 01 and 7f add nothing.
 unfoldable pub add : Policy → Frame → Policy

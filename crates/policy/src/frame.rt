@@ -5,11 +5,11 @@ ghost use lib.ListN.{getD};
 ghost use Rattle.policy.specs.Frames.{byteAt, number2, number4, roleFrom, frameTable, fitsTable, mayFollow, goodRole, miscounts};
 use rows::wide;
 
-// A type with its shortest and longest payload.
+// A type with its shortest and longest payload. Bytes all: the compiled code lays the table down anew for each frame.
 struct FrameType {
     code: u8,
-    shortest: usize,
-    longest: usize,
+    shortest: u8,
+    longest: u8,
 }
 
 const FRAME_TYPES: [FrameType; 9] = [
@@ -108,10 +108,10 @@ pub fn fits_type(kind: u8, size: usize) -> bool
     while k < 9 {
         let known = FRAME_TYPES[k];
         if known.code == kind {
-            if size < known.shortest {
+            if size < wide(known.shortest) {
                 return false;
             }
-            return size <= known.longest;
+            return size <= wide(known.longest);
         }
         k += 1;
     }

@@ -1,12 +1,13 @@
 -- Laws of the loops over a row and over a table's rows: what is left at an index decides.
 -- Assumes nothing.
 use mathlib.Core.Path.{_≡_, refl}
-use mathlib.Core.Bool.{Bool, true, false, _||_}
-use mathlib.Core.List.{List}
+use mathlib.Core.Bool.{Bool, true, false, _||_, and-false}
+use mathlib.Core.List.{List, [], _∷_}
 use Prim.Native.Nat.{ℕ, zero, suc, _+_, _-_, _*_, _≤_, _<_}
 use native.Mathlib.Nat.{not-suc-le-zero, suc-mul, add-sub-cancel-left}
 use native.Mathlib.Numerals.{add-one, sub-one}
 use borrow.Author.Tests.{eq-eqb, ne-eqb}
+use lib.Dec.{eqb}
 use lib.ListN.{length, getD, take, drop, drop-of-length-le}
 use lib.Seq.{drop-cons, drop-drop}
 use Rattle.rows.specs.Rows.{rowsOf, beginsWith, hasRow}
@@ -25,6 +26,14 @@ module _ (key row : List ℕ) (i : ℕ) where
   pub begins-end : length key ≤ i → beginsWith (drop i key) (drop i row) ≡ true
   unfolding beginsWith
   begins-end h = rw (drop-of-length-le key {i = i} h)
+
+-- what differs from an index on differs from the first byte on
+pub begins-later : (key row : List ℕ) (i : ℕ) → beginsWith (drop i key) (drop i row) ≡ false → beginsWith key row ≡ false
+unfolding beginsWith
+begins-later key row zero e = e
+begins-later [] row (suc i) e = e
+begins-later (k ∷ key) [] (suc i) e = refl
+begins-later (k ∷ key) (b ∷ row) (suc i) e = rw (begins-later key row i e) (and-false (eqb k b))
 
 -- the room of the rows that are left, of which one is taken
 pub row-room : (width left : ℕ) → 0 < left → left * width ≡ (left - 1) * width + width

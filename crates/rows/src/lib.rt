@@ -29,6 +29,21 @@ fn begins_with(row: &[u8], key: &[u8]) -> bool
     true
 }
 
+// Whether a row of the key's length is the key. Paths of one policy share how they begin, so it goes from the end back.
+pub fn is_same(row: &[u8], key: &[u8]) -> bool
+    requires { ⌜ length (now key) ≡ length (now row) ⌝ }
+    ensures { λ r. ⌜ r ≡ beginsWith (now (key .entry)) (now (row .entry)) ⌝ }
+{
+    let mut i = key.len();
+    while 0 < i {
+        i -= 1;
+        if row[i] != key[i] {
+            return false;
+        }
+    }
+    true
+}
+
 // Whether one of the first `count` rows of a table begins with the key.
 pub fn has_row(table: &[u8], width: usize, count: usize, key: &[u8]) -> bool
     requires { ⌜ (count * width ≤ length (now table)) × (length (now key) ≤ width) ⌝ }

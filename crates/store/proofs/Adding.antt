@@ -16,10 +16,10 @@ use Rattle.rows.specs.Rows.{joined, written, padded, tableOf}
 use Rattle.rows.proofs.Tables.{joined-append, map-more}
 use Rattle.gran.specs.Policy.{Role, Move, Object, Entry, Policy, USER, GROUP, SPECIAL, DEFAULT}
 use Rattle.gran.specs.Role.{ofKind}
-use Rattle.gran.specs.Good.{rolesOf}
+use Rattle.gran.specs.Good.{rolesOf, KnownKind}
 use Rattle.store.specs.Layout.{two, four, roleRow, placeRows, moveRow, objectRow, entryRow, entryRows, allObjects, allIds, idsOf, idsAt, movesAt, pool, body}
 use Rattle.store.specs.Held.{Bounded, Holds, roleTally, pathTally, moveTally, entryTally, groupTally, lastTally, objectTally, uidTally, gidTally, lastEntry}
-use Rattle.store.specs.Grow.{KnownKind, withRole, withPath, withMove, withEntries, withEntry, newEntry, onLast, addObject, addUid, addGid, withObject, withUid, withGid}
+use Rattle.store.specs.Grow.{withRole, withPath, withMove, withEntries, withEntry, newEntry, onLast, addObject, addUid, addGid, withObject, withUid, withGid}
 use Rattle.store.specs.declared.Last.{Last}
 use Rattle.store.specs.declared.Tally.{Tally}
 use Rattle.store.proofs.Growing.{only-more, objects-more, ids-more, last-of, changed-length, changed-last, changed-objects, changed-ids, places-more, entries-more, entries-changed, path-pool, move-pool, id-pool}

@@ -1,14 +1,8 @@
 -- A policy with one thing more, as each frame adds it (document 01, "The policy as hexadecimal lines").
 -- Assumes nothing.
-use mathlib.Core.Bool.{_||_, So}
 use mathlib.Core.List.{List, [], _∷_, _++_}
 use Prim.Native.Nat.{ℕ}
-use Rattle.gran.specs.Policy.{Role, Move, Object, Allowed, Entry, Policy, USER, GROUP, SPECIAL, DEFAULT}
-use Rattle.gran.specs.Role.{ofKind}
-
--- The role's kind is one of the four.
-abbrev pub KnownKind : Role → Type 0
-KnownKind r = So (ofKind USER r || ofKind GROUP r || ofKind SPECIAL r || ofKind DEFAULT r)
+use Rattle.gran.specs.Policy.{Role, Move, Object, Allowed, Entry, Policy}
 
 -- Nothing yet.
 abbrev pub noPolicy : Policy
@@ -30,8 +24,11 @@ abbrev pub withEntry : Policy → Entry → Policy
 withEntry P e = withEntries P (P .entries ++ (e ∷ []))
 
 -- An entry as its frame gives it, with no object and no id yet.
+abbrev pub unlisted : ℕ → Allowed
+unlisted mode = record { mode = mode; ids = [] }
+
 abbrev pub newEntry : ℕ → ℕ → ℕ → ℕ → ℕ → Entry
-newEntry subject role caps users groups = record { role = role; subject = subject; caps = caps; users = record { mode = users; ids = [] }; groups = record { mode = groups; ids = [] }; objects = [] }
+newEntry subject role caps users groups = record { role = role; subject = subject; caps = caps; users = unlisted users; groups = unlisted groups; objects = [] }
 
 -- Objects and ids go to the last entry.
 unfoldable pub onLast : (Entry → Entry) → List Entry → List Entry

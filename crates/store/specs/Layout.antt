@@ -1,10 +1,9 @@
 -- How a policy lies in the store's first 16,384 bytes (docs/LAYOUT.md). Numbers are big-endian, unused bytes 0.
 -- Assumes nothing.
-use mathlib.Core.Bool.{Bool}
 use mathlib.Core.List.{List, [], _∷_, _++_, map}
 use Prim.Native.Nat.{ℕ, _+_, _*_, _/_, _%_}
 use lib.ListN.{length}
-use Rattle.paths.specs.Path.{slash, same}
+use Rattle.paths.specs.Path.{isSlash}
 use Rattle.lines.specs.Line.{zeros}
 use Rattle.rows.specs.Rows.{joined, padded, tableOf}
 use Rattle.gran.specs.Lists.{place}
@@ -86,9 +85,6 @@ body P =
     ++ padded 13436 (pool P)))))
 
 -- The path number of `/`, or none.
-abbrev pub isSlash : List ℕ → Bool
-isSlash p = same p (slash ∷ [])
-
 unfoldable pub rootOf : Policy → ℕ
 rootOf P = place isSlash 0 (P .paths)
 

@@ -6,9 +6,10 @@ use Prim.Native.Nat.{ℕ, _+_, _*_, _≤_, _<_}
 use lib.ListN.{length}
 use Rattle.gran.specs.Policy.{Role, Move, Object, Entry, Policy}
 use Rattle.gran.specs.Match.{pathsOfS}
+use Rattle.gran.specs.Good.{KnownKind}
 use Rattle.store.specs.Layout.{two, rootOf, layout}
 use Rattle.store.specs.Held.{Holds, lastEntry, roleTally, pathTally, moveTally, entryTally, objectTally, uidTally, gidTally}
-use Rattle.store.specs.Grow.{KnownKind, withRole, withPath, withMove, withEntry, withObject, withUid, withGid}
+use Rattle.store.specs.Grow.{withRole, withPath, withMove, withEntry, withObject, withUid, withGid}
 use Rattle.store.specs.declared.Tally.{Tally}
 
 -- From tallies t and bytes `before` to tallies r and bytes `after`: a policy of which `Given` holds has grown.

@@ -4,6 +4,7 @@ use borrow.Author.Needs.{needs}
 use mathlib.Core.Path.{_≡_, _∙_, refl, sym}
 use native.Mathlib.Omega.{arith}
 use lib.ListN.{length, drop}
+use Rattle.paths.specs.Path.{isSlash}
 use Rattle.judge.specs.Judge.{Answers}
 use Rattle.gran.specs.Policy.{Policy}
 use Prim.Native.Nat.{_-_, _≤_, _<_}
@@ -11,7 +12,7 @@ use mathlib.Core.Bool.{true, false}
 use Rattle.gran.specs.Lists.{place}
 use mathlib.Core.List.{[]}
 use borrow.Author.Tests.{eq-eqb, ne-eqb}
-use Rattle.store.specs.Layout.{isSlash, rootOf}
+use Rattle.store.specs.Layout.{rootOf}
 use Rattle.ending.proofs.Roots.{place-next, place-end}
 use Rattle.ending.proofs.Stored.{slash-read}
 use Rattle.ending.proofs.root_of.Statement.{statement}

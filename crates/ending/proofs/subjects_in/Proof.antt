@@ -3,6 +3,7 @@
 use borrow.Author.Needs.{needs}
 use mathlib.Core.Path.{_≡_, _∙_, sym}
 use native.Mathlib.Omega.{arith}
+use borrow.Author.Tests.{eq-eqb, ne-eqb}
 use lib.ListN.{length}
 use Rattle.judge.specs.Judge.{Answers}
 use Rattle.gran.specs.Policy.{Policy}
@@ -16,23 +17,23 @@ use Rattle.ending.proofs.subjects_in.Statement.{statement}
 use Rattle.ending.proofs.subjects_in.Tie as tie
 
 abbrev Inv-loop : tie.InvT-loop
-Inv-loop store t count₀ i₀ count i = (count ≤ i) × (i ≤ t .paths) × Answers t store (λ (P : Policy). length (pathsOfS P) ≡ count + length (only (isSubject P) (numbers i (length (P .paths) - i))))
+Inv-loop store t marks count₀ i₀ count i = (count ≤ i) × (i ≤ t .paths) × Answers t store (λ (P : Policy). length (pathsOfS P) ≡ count + length (only (isSubject P) (numbers i (length (P .paths) - i))))
 
 abbrev μ-loop : tie.MeasureT-loop
-μ-loop store t count₀ i₀ count i = t .paths - i
+μ-loop store t marks count₀ i₀ count i = t .paths - i
+
+subject-marks-requires : tie.Need-subject-marks-requires Inv-loop μ-loop
+subject-marks-requires c κs = search needs
 
 loop-holds : tie.Need-loop-holds Inv-loop μ-loop
 unfolding pathsOfS
 loop-holds c = (omega arith, omega arith, λ P rest sound h. rw (sub-zero, zero-add))
 
-cast-number : tie.Need-cast-number Inv-loop μ-loop
-cast-number c = search needs
+array-read-mark : tie.Need-array-read-mark Inv-loop μ-loop
+array-read-mark c = search needs
 
 add-i : tie.Need-add-i Inv-loop μ-loop
 add-i c = search needs
-
-has-subject-requires : tie.Need-has-subject-requires Inv-loop μ-loop
-has-subject-requires c κs = search needs
 
 add-count : tie.Need-add-count Inv-loop μ-loop
 add-count c = search needs
@@ -45,8 +46,9 @@ loop-again c = (
   omega arith,
   omega arith,
   λ P rest sound h.
-      let l = c .before .before .before .before .loop in
-      l .inv .2 P rest sound h ∙ counted (isSubject P) (length (P .paths)) (l .i) (l .count) (omega (arith, h .paths)) true (sym (c .if2 .taken) ∙ c .before .has-subject .ensures P rest sound h),
+      let l = c .before .before .before .loop in
+      let marks = c .before .before .before .before .subject-marks in
+      l .inv .2 P rest sound h ∙ counted (isSubject P) (length (P .paths)) (l .i) (l .count) (omega (arith, h .paths)) true (sym (marks .ensures P rest sound h (l .i) ∙ eq-eqb _ _ (c .if2 .taken))),
 )
 
 loop-less-2 : tie.Need-loop-less-2 Inv-loop μ-loop
@@ -57,8 +59,9 @@ loop-again-2 c = (
   omega arith,
   omega arith,
   λ P rest sound h.
-      let l = c .before .before .before .before .loop in
-      l .inv .2 P rest sound h ∙ counted (isSubject P) (length (P .paths)) (l .i) (l .count) (omega (arith, h .paths)) false (sym (c .if2 .left) ∙ c .before .has-subject .ensures P rest sound h),
+      let l = c .before .before .before .loop in
+      let marks = c .before .before .before .before .subject-marks in
+      l .inv .2 P rest sound h ∙ counted (isSubject P) (length (P .paths)) (l .i) (l .count) (omega (arith, h .paths)) false (sym (marks .ensures P rest sound h (l .i) ∙ ne-eqb _ _ (c .if2 .left))),
 )
 
 returns : tie.Need-returns Inv-loop μ-loop
@@ -70,10 +73,10 @@ subjects-in-spec =
     (tie.spec
     Inv-loop
     μ-loop
+    subject-marks-requires
     loop-holds
-    cast-number
+    array-read-mark
     add-i
-    has-subject-requires
     add-count
     loop-less
     loop-again

@@ -68,22 +68,22 @@ returns-2 c P rest t bounded h l =
       path-fits P rest t (a .store .now) bounded h (a .number) l,
     ))
 
-sub-has-row : tie.Need-sub-has-row
-sub-has-row c = search needs
+sub-is-same : tie.Need-sub-is-same
+sub-is-same c = search needs
 
-part-has-row-start : tie.Need-part-has-row-start
-part-has-row-start c = search needs
+part-is-same-start : tie.Need-part-is-same-start
+part-is-same-start c = search needs
 
-part-has-row-end : tie.Need-part-has-row-end
-part-has-row-end c = search needs
+part-is-same-end : tie.Need-part-is-same-end
+part-is-same-end c = search needs
 
-has-row-requires : tie.Need-has-row-requires
-has-row-requires c κs = search needs
+is-same-requires : tie.Need-is-same-requires
+is-same-requires c κs = search needs
 
 returns-3 : tie.Need-returns-3
 returns-3 c = λ P rest t bounded h l.
     let a = c .before .before .before .before .before .before .before .before .before .before .before .before .args in
-    c .has-row .ensures
+    c .is-same .ensures
     ∙ path-same P rest t (a .store .now) bounded h (a .number) l (a .path .now) _ _
     (omega (arith, c .before .before .before .wide3 .ensures .0, c .before .before .before .before .before .wide2 .ensures .0, path-place P rest t (a .store .now) bounded h (a .number) l))
     (c .before .before .before .before .before .before .before .before .wide .ensures .0 ∙ path-size P rest t (a .store .now) bounded h (a .number) l)
@@ -109,8 +109,8 @@ is-path-spec =
     add-at-2
     add-end
     returns-2
-    sub-has-row
-    part-has-row-start
-    part-has-row-end
-    has-row-requires
+    sub-is-same
+    part-is-same-start
+    part-is-same-end
+    is-same-requires
     returns-3)

@@ -1,10 +1,11 @@
 -- `policy::frame::fits_type` meets its contract. The invariant: what is left of the table decides.
 -- Assumes nothing.
 use borrow.Author.Needs.{needs}
-use mathlib.Core.Path.{_≡_, _∙_, refl, sym}
+use mathlib.Core.Path.{_≡_, _∙_, refl, sym, ap}
 use Prim.Native.Nat.{_-_, _≤_}
 use native.Mathlib.Omega.{arith}
 use borrow.Author.Tests.{le-leb, lt-leb}
+use lib.Dec.{leb}
 use lib.ListN.{drop}
 use Rattle.policy.specs.Frames.{frameType, frameTable, fitsTable}
 use Rattle.policy.proofs.Table.{other-type, this-type, no-type}
@@ -26,15 +27,22 @@ mul-known c = search needs
 array-copy-out-known : tie.Need-array-copy-out-known Inv-loop μ-loop
 array-copy-out-known c = search needs
 
+wide-requires : tie.Need-wide-requires Inv-loop μ-loop
+wide-requires c κs = search needs
+
 returns : tie.Need-returns Inv-loop μ-loop
 returns c =
     let l = c .before .before .before .before .before .before in
-    sym (l .loop .inv .1 ∙ this-type frameTable (frameType 0 0 0) (l .loop .k) (l .before .args .kind) (l .before .args .size) (omega arith) (c .before .before .if1 .taken) ∙ simp (lt-leb _ _ (c .if2 .taken)))
+    sym (l .loop .inv .1 ∙ this-type frameTable (frameType 0 0 0) (l .loop .k) (l .before .args .kind) (l .before .args .size) (omega arith) (c .before .before .if1 .taken) ∙ simp (lt-leb _ _ (rw (c .before .wide .ensures .0) at (c .if2 .taken))))
+
+wide-requires-2 : tie.Need-wide-requires-2 Inv-loop μ-loop
+wide-requires-2 c κs = search needs
 
 returns-2 : tie.Need-returns-2 Inv-loop μ-loop
 returns-2 c =
     let l = c .before .before .before .before .before .before .before in
-    sym (l .loop .inv .1 ∙ this-type frameTable (frameType 0 0 0) (l .loop .k) (l .before .args .kind) (l .before .args .size) (omega arith) (c .before .before .before .if1 .taken) ∙ simp (le-leb _ _ (c .before .if2 .left)))
+    ap (leb (l .before .args .size)) (c .wide2 .ensures .0)
+    ∙ sym (l .loop .inv .1 ∙ this-type frameTable (frameType 0 0 0) (l .loop .k) (l .before .args .kind) (l .before .args .size) (omega arith) (c .before .before .before .if1 .taken) ∙ simp (le-leb _ _ (rw (c .before .before .wide .ensures .0) at (c .before .if2 .left))))
 
 add-k : tie.Need-add-k Inv-loop μ-loop
 add-k c = search needs
@@ -59,7 +67,9 @@ fits-type-spec =
     loop-holds
     mul-known
     array-copy-out-known
+    wide-requires
     returns
+    wide-requires-2
     returns-2
     add-k
     loop-less
