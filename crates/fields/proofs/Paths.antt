@@ -13,7 +13,7 @@ use Rattle.store.specs.Layout.{two, header}
 use Rattle.store.specs.Held.{Loaded}
 use Rattle.store.proofs.Regions.{header-length}
 use Rattle.store.proofs.Reading.{place-byte, path-within, path-part}
-use Rattle.fields.specs.Fields.{byteAt, wordAt, pathIn}
+use Rattle.fields.specs.Fields.{byteAt, wordAt, pathSize, pathIn}
 use Rattle.fields.proofs.Bytes.{word-of, part-inside, path-known, path-unknown}
 use Rattle.fields.proofs.Header.{held, store-long, path-count}
 
@@ -31,7 +31,7 @@ module _ {P : Policy} {rest s : List ℕ} (L : Loaded P rest s) (n : ℕ) where
     unfolding two
     place-read = word-of s (676 + 3 * n) _ (omega (arith, within)) (place-at 0 _ (omega arith) (omega arith)) (place-at 1 _ (omega arith) (omega arith))
 
-    size-read : byteAt s (676 + 3 * n + 2) ≡ length (getD (P .paths) n [])
+    pub size-read : pathSize s n ≡ length (pathAt (P .paths) n)
     unfolding two
     size-read = place-at 2 _ (omega arith) (omega arith)
 

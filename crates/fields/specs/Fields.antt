@@ -61,11 +61,15 @@ roleId s r = longAt s (16 + 22 * r + 1)
 unfoldable pub partOf : List ℕ → ℕ → ℕ → List ℕ
 partOf s from size = cond (leb (from + size) (length s)) (take size (drop from s)) []
 
+-- The length that the store states for path n.
+abbrev pub pathSize : List ℕ → ℕ → ℕ
+pathSize s n = byteAt s (676 + 3 * n + 2)
+
 -- Path n: none where the store is too short for its place, or states no such path, or its bytes run past the end.
 unfoldable pub pathIn : List ℕ → ℕ → List ℕ
 pathIn s n =
     cond (leb (676 + 3 * n + 3) (length s) && ltb n (pathCount s))
-    (partOf s (2948 + wordAt s (676 + 3 * n)) (byteAt s (676 + 3 * n + 2))) []
+    (partOf s (2948 + wordAt s (676 + 3 * n)) (pathSize s n)) []
 
 -- Entry e: subject, role, capabilities, user mode, group mode, first object, objects, first id's place in the pool, UIDs, GIDs.
 abbrev pub entrySubject : List ℕ → ℕ → ℕ
@@ -97,6 +101,10 @@ uidCount s e = byteAt s (1156 + 12 * e + 10)
 
 abbrev pub gidCount : List ℕ → ℕ → ℕ
 gidCount s e = byteAt s (1156 + 12 * e + 11)
+
+-- The path of the object that stands i behind the one at place n among all objects.
+abbrev pub pathFrom : List ℕ → ℕ → ℕ → ℕ
+pathFrom s n i = byteAt s (1924 + 2 * (n + i))
 
 -- Object i of entry e: path, modes.
 abbrev pub objectPathAt : List ℕ → ℕ → ℕ → ℕ

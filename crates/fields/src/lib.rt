@@ -2,8 +2,8 @@
 // What a reader must believe stands in specs/Fields.antt. Where the store holds a policy, each reading is that policy's
 // field: proofs/Header.antt, Roles.antt, Paths.antt and Entries.antt, and Again.antt for the whole policy.
 ghost use mathlib.Core.Path.{_≡_};
-ghost use Prim.Native.Nat.{_+_, _*_};
-ghost use Rattle.fields.specs.Fields.{byteAt, wordAt, longAt, roleCount, pathCount, entryCount, userCount, groupCount, specialCount, subjectCount, moveCount, movesPlace, roleKind, roleId, partOf, pathIn, entrySubject, entryRole, entryCaps, userMode, groupMode, firstObject, objectCount, firstId, uidCount, gidCount, objectPathAt, objectModesAt, moveRole, moveSpecial, uidAt, gidAt};
+ghost use Prim.Native.Nat.{_+_};
+ghost use Rattle.fields.specs.Fields.{byteAt, wordAt, longAt, roleCount, pathCount, entryCount, userCount, groupCount, specialCount, subjectCount, moveCount, movesPlace, roleKind, roleId, partOf, pathSize, pathIn, entrySubject, entryRole, entryCaps, userMode, groupMode, firstObject, objectCount, firstId, uidCount, gidCount, pathFrom, objectPathAt, objectModesAt, moveRole, moveSpecial, uidAt, gidAt};
 
 // The header's bytes.
 const ROLE_COUNT: usize = 1;
@@ -170,6 +170,13 @@ fn pool_part(store: &[u8], place: u16, size: u8) -> &[u8]
     }
 }
 
+// The length that the store states for path `n`.
+pub fn path_size(store: &[u8], n: u8) -> u8
+    ensures { λ r. ⌜ r ≡ pathSize (now (store .entry)) n ⌝ }
+{
+    byte(store, PLACES + 3 * (n as usize) + 2)
+}
+
 // The bytes of path `n`, or an empty part of the store where there is no such path.
 pub fn path(store: &[u8], n: u8) -> &[u8]
     ensures { λ r. ⌜ now r ≡ pathIn (now (store .entry)) n ⌝ }
@@ -181,7 +188,7 @@ pub fn path(store: &[u8], n: u8) -> &[u8]
     if path_count(store) <= n {
         return &store[0..0];
     }
-    pool_part(store, word(store, at), byte(store, at + 2))
+    pool_part(store, word(store, at), path_size(store, n))
 }
 
 // The path number of the subject of entry `e`.
@@ -218,7 +225,7 @@ pub fn group_mode(store: &[u8], e: u8) -> u8
 }
 
 // The place of the first object of entry `e` among all objects.
-fn first_object(store: &[u8], e: u8) -> u16
+pub fn first_object(store: &[u8], e: u8) -> u16
     ensures { λ r. ⌜ r ≡ firstObject (now (store .entry)) e ⌝ }
 {
     word(store, ENTRIES + 12 * (e as usize) + FIRST_OBJECT)
@@ -250,12 +257,19 @@ pub fn gid_count(store: &[u8], e: u8) -> u8
     byte(store, ENTRIES + 12 * (e as usize) + GID_COUNT)
 }
 
+// The path number of the object that stands `i` behind the one at place `first`.
+pub fn path_from(store: &[u8], first: u16, i: u8) -> u8
+    ensures { λ r. ⌜ r ≡ pathFrom (now (store .entry)) first i ⌝ }
+{
+    let place = first as usize + i as usize;
+    byte(store, OBJECTS + 2 * place)
+}
+
 // The path number of object `i` of entry `e`.
 pub fn object_path(store: &[u8], e: u8, i: u8) -> u8
     ensures { λ r. ⌜ r ≡ objectPathAt (now (store .entry)) e i ⌝ }
 {
-    let place = first_object(store, e) as usize + i as usize;
-    byte(store, OBJECTS + 2 * place)
+    path_from(store, first_object(store, e), i)
 }
 
 pub fn object_modes(store: &[u8], e: u8, i: u8) -> u8

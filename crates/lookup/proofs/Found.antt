@@ -2,7 +2,7 @@
 -- Assumes nothing.
 use mathlib.Core.Path.{_≡_, _∙_}
 use mathlib.Core.Logic.{_≢_}
-use mathlib.Core.Bool.{true, So}
+use mathlib.Core.Bool.{true, cond, So}
 use mathlib.Core.List.{List, []}
 use Prim.Native.Nat.{ℕ, _+_, _<_}
 use native.Mathlib.Omega.{arith}
@@ -18,7 +18,7 @@ use Rattle.gran.specs.Good.{GoodObject}
 use Rattle.gran.proofs.Lists.{all-at}
 use Rattle.gran.proofs.Policies.{S-rooted, role-rooted, entry-rooted}
 use Rattle.store.specs.Held.{Loaded}
-use Rattle.fields.specs.Fields.{entryCount, entrySubject, objectCount, objectPathAt, objectModesAt}
+use Rattle.fields.specs.Fields.{entryCount, entrySubject, firstObject, objectCount, objectPathAt, objectModesAt}
 use Rattle.fields.proofs.Header.{entry-count}
 use Rattle.fields.proofs.Paths.{path-read}
 use Rattle.fields.proofs.Entries.{entry-subject, entry-role, object-count, object-path, object-modes}
@@ -26,7 +26,7 @@ use Rattle.lookup.specs.Best.{bestOf, gradeIn, gradeAt}
 use Rattle.lookup.specs.Lookup.{gradeOf, Graded, entryAt, InForce, Placed}
 use Rattle.lookup.specs.declared.Row.the-variants.{Subjects, OfRole, Objects}
 use Rattle.lookup.proofs.Search.{always, only-all}
-use Rattle.lookup.proofs.Picked.{Picked, picked}
+use Rattle.lookup.proofs.Picked.{Picked, picked, picked-graded}
 use Rattle.lookup.proofs.Matches.{noObject, good-entry, subject-picked, entry-picked, object-picked, placed-path, placed-modes}
 
 -- One place more of a list holds its value.
@@ -55,19 +55,29 @@ module _ {P : Policy} {rest s : List ℕ} (L : Loaded P rest s) (f : List ℕ) w
         p : Picked P f always subjectPath noEntry (P .entries) (bestOf (gradeAt s of Subjects) (length (P .entries)) .place)
         p = picked P (L .good) f always subjectPath noEntry (P .entries) (rw (only-all (P .entries)) (S-rooted P (L .good))) (gradeAt s of Subjects) subject-grade
 
-    pub entry-found : (r : ℕ) → r < length (P .roles) → InForce P r f (bestOf (gradeAt s of (OfRole r)) (entryCount s) .place)
-    unfolding gradeAt subjectsOf
-    entry-found r known =
-        rw (entry-count L) (entry-picked P (L .good) f r _
-        (picked P (L .good) f (ofRole r) subjectPath noEntry (P .entries) (role-rooted P (L .good) r known) (gradeAt s of (OfRole r))
-        (λ e l. rw (entry-role L e l, subject-grade e l))))
+    module _ (r : ℕ) (known : r < length (P .roles)) where
+      role-grade : (e : ℕ) → e < length (P .entries) → gradeAt s of (OfRole r) e ≡ cond (ofRole r (entryAt P e)) (gradeOf P f (entryAt P e .subject)) 0
+      unfolding gradeAt
+      role-grade e l = rw (entry-role L e l, subject-grade e l)
+
+      pub entry-found : InForce P r f (bestOf (gradeAt s of (OfRole r)) (entryCount s) .place)
+      unfolding subjectsOf
+      entry-found =
+          rw (entry-count L) (entry-picked P (L .good) f r _
+          (picked P (L .good) f (ofRole r) subjectPath noEntry (P .entries) (role-rooted P (L .good) r known) (gradeAt s of (OfRole r)) role-grade))
+
+      -- its grade is not 0
+      pub entry-graded : 0 < bestOf (gradeAt s of (OfRole r)) (entryCount s) .grade
+      unfolding subjectsOf
+      entry-graded =
+          rw (entry-count L) (picked-graded P (L .good) f (ofRole r) subjectPath noEntry (P .entries) (role-rooted P (L .good) r known) (gradeAt s of (OfRole r)) role-grade)
 
     module _ (e : ℕ) (known : e < length (P .entries)) where
-      pub object-found : Placed P e f (bestOf (gradeAt s of (Objects e)) (objectCount s e) .place)
+      pub object-found : Placed P e f (bestOf (gradeAt s of (Objects (firstObject s e))) (objectCount s e) .place)
       unfolding gradeAt objectsOf
       object-found =
           rw (object-count L e known) (object-picked P (L .good) f e known _
-          (picked P (L .good) f always objectPath noObject objects (rw (only-all objects) (entry-rooted P (L .good) (entryAt P e) (good-entry P (L .good) e known))) (gradeAt s of (Objects e))
+          (picked P (L .good) f always objectPath noObject objects (rw (only-all objects) (entry-rooted P (L .good) (entryAt P e) (good-entry P (L .good) e known))) (gradeAt s of (Objects (firstObject s e)))
           (λ i l. rw (object-path L e known i noObject l) (graded _ (named i l)))))
         where
           objects : List Object

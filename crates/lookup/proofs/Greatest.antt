@@ -46,6 +46,10 @@ module _ (a : ℕ → ℕ) where
         place = λ h. (omega (arith, t .place h .0), t .place h .1);
       }
 
+  -- The best has at least the grade of each.
+  pub at-least : (n j : ℕ) → j < n → a j ≤ bestOf a n .grade
+  at-least n j l = top n .most j l
+
   -- Where one of the row has a grade, the best has the greatest.
   pub record Greatest (n i : ℕ) : Type 0 where
     pub inside : i < n
@@ -88,6 +92,18 @@ module _ (P : Policy) (f : List ℕ) (c : ℕ) where
       go : (x : Bool) → 0 < cond x (length (pathAt (P .paths) c) + 1) 0 → So x
       go true h = refl
       go false h = absurd (not-suc-le-zero h)
+
+-- Of two paths the one that is not shorter has no grade for the other.
+pub grade-beside : (P : Policy) → Table (P .paths) → (c q : ℕ) → c < length (P .paths) → q < length (P .paths) → (q ≡ c → ⊥) → length (pathAt (P .paths) c) ≤ length (pathAt (P .paths) q)
+    → gradeOf P (pathAt (P .paths) c) q ≡ 0
+unfolding gradeOf
+grade-beside P table c q named-c named-q apart long = go (under (pathAt (P .paths) c) (pathAt (P .paths) q)) refl
+  where
+    go : (x : Bool) → under (pathAt (P .paths) c) (pathAt (P .paths) q) ≡ x → cond x (length (pathAt (P .paths) q) + 1) 0 ≡ 0
+    go true u =
+        let prefix : So (begins (pathAt (P .paths) q) (pathAt (P .paths) c)) = sym (under-bytes (pathAt (P .paths) c) (pathAt (P .paths) q) (table .good c named-c) (table .good q named-q)) ∙ u in
+        absurd (apart (table .distinct q c named-q named-c (begins-whole (pathAt (P .paths) q) (pathAt (P .paths) c) prefix long)))
+    go false u = refl
 
 module _ (P : Policy) (table : Table (P .paths)) (f : List ℕ) (cs : List ℕ) (rooted : Rooted (P .paths) cs) where
   -- A path of the list with the greatest grade is the most specific.

@@ -3,3 +3,5 @@ pub mod Greatest
 pub mod Picked
 pub mod Matches
 pub mod Found
+pub mod Listed
+pub mod Force

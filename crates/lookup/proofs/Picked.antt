@@ -15,7 +15,7 @@ use Rattle.gran.proofs.Policies.{table}
 use Rattle.lookup.specs.Best.{bestOf}
 use Rattle.lookup.specs.Lookup.{gradeOf}
 use Rattle.lookup.proofs.Search.{listed-place, place-listed}
-use Rattle.lookup.proofs.Greatest.{Greatest, greatest, grade-under, greatest-closest}
+use Rattle.lookup.proofs.Greatest.{Greatest, at-least, greatest, grade-under, greatest-closest}
 
 -- Place i of a row of things, of which some count, each with a path: its path is the most specific.
 pub record Picked (P : Policy) (f : List ℕ) {A : Type 0} (test : A → Bool) (path : A → ℕ) (d : A) (xs : List A) (i : ℕ) : Type 0 where
@@ -41,6 +41,15 @@ module _ (P : Policy) (good : Good P) (f : List ℕ) {A : Type 0} (test : A → 
         go true e = (refl, e)
         go false e = absurd (omega arith)
 
+    -- something has a grade: the most specific path
+    top : (j : ℕ) × (j < length xs) × (0 < a j)
+    top =
+        let C₀ : MostSpecific (P .paths) cs f (closest (P .paths) f none cs) = closest-most (table P good) rooted f in
+        let (j, l, e) = graded _ (C₀ .inside) in (j, l, omega (arith, e, grade-under P f _ (C₀ .above)))
+
+    pub picked-graded : 0 < bestOf a (length xs) .grade
+    picked-graded = omega (arith, at-least a (length xs) (top .0) (top .1), top .2)
+
     pub picked : Picked P f test path d xs (bestOf a (length xs) .place)
     picked = record {
       inside = G .inside;
@@ -55,12 +64,8 @@ module _ (P : Policy) (good : Good P) (f : List ℕ) {A : Type 0} (test : A → 
         x : A
         x = getD xs i d
 
-        C₀ : MostSpecific (P .paths) cs f (closest (P .paths) f none cs)
-        C₀ = closest-most (table P good) rooted f
-
-        -- something has a grade: the most specific path
         G : Greatest a (length xs) i
-        G = let r = graded _ (C₀ .inside) in greatest a (length xs) (r .0) (r .1) (omega (arith, r .2, grade-under P f _ (C₀ .above)))
+        G = greatest a (length xs) (top .0) (top .1) (top .2)
 
         C : So (test x) × (a i ≡ gradeOf P f (path x))
         C = counted i (G .inside) (G .some)

@@ -2,15 +2,17 @@
 // What a reader must believe stands in specs/Lookup.antt and in gran's specs/; specs/Best.antt says what the loop finds.
 ghost use mathlib.Core.Path.{_≡_};
 ghost use mathlib.Core.List.{List};
-ghost use Prim.Native.Nat.{ℕ, _<_};
+ghost use Prim.Native.Nat.{ℕ, _+_, _≤_, _<_};
+ghost use lib.Dec.{eqb};
 ghost use lib.ListN.{length};
 ghost use Rattle.gran.specs.Policy.{Policy};
-ghost use Rattle.gran.specs.Match.{subjectOf};
+ghost use Rattle.gran.specs.Lists.{place};
+ghost use Rattle.gran.specs.Match.{pathAt, pathsOfS, subjectOf};
 ghost use Rattle.store.specs.Held.{Loaded};
 ghost use Rattle.fields.specs.Fields.{byteAt};
 ghost use Rattle.lookup.specs.declared.Row.the-variants.{OfRole};
-ghost use Rattle.lookup.specs.Best.{noBest, orElse, bestOf, gradeIn, gradeAt};
-ghost use Rattle.lookup.specs.Lookup.{Graded, InForce, Placed};
+ghost use Rattle.lookup.specs.Best.{noBest, orElse, bestOf, gradeIn, gradeAt, Tops};
+ghost use Rattle.lookup.specs.Lookup.{gradeOf, Graded, IsOwn, InForce, Placed};
 
 // The most paths that a policy has, and the longest good path.
 const PATHS: u8 = 96;
@@ -56,8 +58,8 @@ enum Row {
     Subjects,
     // The subjects of a role's entries.
     OfRole(u8),
-    // The objects of an entry.
-    Objects(u8),
+    // The objects of an entry, from the place of its first among all objects.
+    Objects(u16),
 }
 
 // How specific path `c` is for `file`; a path that no policy holds is not at all.
@@ -75,9 +77,24 @@ fn grade(store: &[u8], file: &[u8], c: u8) -> u8
     0
 }
 
-// The grades of the policy's paths for `file`.
-pub fn grades_for(store: &[u8], file: &[u8]) -> Grades
-    ensures { λ r. ⌜ ((P : Policy) (rest : List ℕ) → Loaded P rest (now (store .entry)) → Graded P (now (file .entry)) (r .of)) ⌝ }
+// How specific path `q` is for `file`, which is path `c` of the policy, or unknown for 255. Of the other paths only a shorter one can have
+// path `c` under it, so most are not compared.
+fn grade_beside(store: &[u8], file: &[u8], c: u8, q: u8) -> u8
+    ensures { λ r. ⌜ ((P : Policy) (rest : List ℕ) → Loaded P rest (now (store .entry)) → IsOwn P (now (file .entry)) c → q < length (P .paths) → r ≡ gradeOf P (now (file .entry)) q) ⌝ }
+{
+    if c != gran::NONE {
+        if q != c {
+            if file.len() <= fields::path_size(store, q) as usize {
+                return 0;
+            }
+        }
+    }
+    grade(store, file, q)
+}
+
+// The grades of the policy's paths for `file`, which is path `own` of the policy, or unknown for 255.
+fn grades_beside(store: &[u8], file: &[u8], own: u8) -> Grades
+    ensures { λ r. ⌜ ((P : Policy) (rest : List ℕ) → Loaded P rest (now (store .entry)) → IsOwn P (now (file .entry)) own → Graded P (now (file .entry)) (r .of)) ⌝ }
 {
     let mut of = [0; 96];
     let count = fields::path_count(store);
@@ -86,10 +103,24 @@ pub fn grades_for(store: &[u8], file: &[u8]) -> Grades
     }
     let mut c: u8 = 0;
     while c < count {
-        of[c as usize] = grade(store, file, c);
+        of[c as usize] = grade_beside(store, file, own, c);
         c += 1;
     }
     Grades { of }
+}
+
+// The grades of the policy's paths for any file.
+pub fn grades_for(store: &[u8], file: &[u8]) -> Grades
+    ensures { λ r. ⌜ ((P : Policy) (rest : List ℕ) → Loaded P rest (now (store .entry)) → Graded P (now (file .entry)) (r .of)) ⌝ }
+{
+    grades_beside(store, file, gran::NONE)
+}
+
+// The grades of the policy's paths for path `c`.
+pub fn grades_of(store: &[u8], c: u8) -> Grades
+    ensures { λ r. ⌜ ((P : Policy) (rest : List ℕ) → Loaded P rest (now (store .entry)) → c < length (P .paths) → Graded P (pathAt (P .paths) c) (r .of)) ⌝ }
+{
+    grades_beside(store, fields::path(store, c), c)
 }
 
 // The grade of path `c`.
@@ -116,7 +147,7 @@ fn grade_at(store: &[u8], of: &[u8], row: Row, i: u8) -> u8
     match row {
         Row::Subjects => grade_of(of, fields::entry_subject(store, i)),
         Row::OfRole(role) => role_grade(store, of, role, i),
-        Row::Objects(entry) => grade_of(of, fields::object_path(store, entry, i)),
+        Row::Objects(first) => grade_of(of, fields::path_from(store, first, i)),
     }
 }
 
@@ -132,28 +163,70 @@ fn best_place(store: &[u8], of: &[u8], row: Row, count: u8) -> u8
 }
 
 // The most specific path of S that the file is under.
-pub fn subject_of(store: &[u8], g: Grades) -> u8
-    ensures { λ r. ⌜ ((P : Policy) (rest f : List ℕ) → Loaded P rest (now (store .entry)) → Graded P f (g .of) → r ≡ subjectOf P f) ⌝ }
+pub fn subject_of(store: &[u8], of: &[u8]) -> u8
+    ensures { λ r. ⌜ ((P : Policy) (rest f : List ℕ) → Loaded P rest (now (store .entry)) → Graded P f (now (of .entry)) → r ≡ subjectOf P f) ⌝ }
 {
-    let of = g.of;
     let count = fields::entry_count(store);
-    fields::entry_subject(store, best_place(store, &of, Row::Subjects, count))
+    fields::entry_subject(store, best_place(store, of, Row::Subjects, count))
+}
+
+// The place of the one that the file stands for in a list of the paths of S.
+pub fn closest_in(store: &[u8], file: &[u8], list: &[u8]) -> u8
+    requires { ⌜ length (now list) ≤ 64 ⌝ }
+    ensures { λ r. ⌜ ((P : Policy) (rest : List ℕ) → Loaded P rest (now (store .entry)) → now (list .entry) ≡ pathsOfS P → r ≡ place (eqb (subjectOf P (now (file .entry)))) 0 (pathsOfS P)) ⌝ }
+{
+    let mut best = Best::none();
+    let mut i: u8 = 0;
+    while (i as usize) < list.len() {
+        best = best.or(i, grade(store, file, list[i as usize]));
+        i += 1;
+    }
+    best.place
 }
 
 // The number of the entry in force for the file in a role.
-pub fn entry_in(store: &[u8], role: u8, g: Grades) -> u8
-    ensures { λ r. ⌜ ((P : Policy) (rest f : List ℕ) → Loaded P rest (now (store .entry)) → Graded P f (g .of) → role < length (P .roles) → InForce P role f r) ⌝ }
+pub fn entry_in(store: &[u8], role: u8, of: &[u8]) -> u8
+    ensures { λ r. ⌜ ((P : Policy) (rest f : List ℕ) → Loaded P rest (now (store .entry)) → Graded P f (now (of .entry)) → role < length (P .roles) → InForce P role f r) ⌝ }
 {
-    let of = g.of;
     let count = fields::entry_count(store);
-    best_place(store, &of, Row::OfRole(role), count)
+    best_place(store, of, Row::OfRole(role), count)
+}
+
+// Entry `e` takes the place of the one found so far for its role where its subject has a greater grade.
+fn take_entry(store: &[u8], of: &[u8], e: u8, most: &mut [u8], row: &mut [u8])
+    ensures { λ _. ⌜ (Tops (now (store .entry)) (now (of .entry)) e (now (most .entry)) (now (row .entry)) → Tops (now (store .entry)) (now (of .entry)) (e + 1) (now (most .exit)) (now (row .exit))) ⌝ }
+{
+    let r = fields::entry_role(store, e) as usize;
+    if most.len() <= r {
+        return;
+    }
+    if row.len() <= r {
+        return;
+    }
+    let grade = grade_of(of, fields::entry_subject(store, e));
+    if grade <= most[r] {
+        return;
+    }
+    most[r] = grade;
+    row[r] = e;
+}
+
+// For each role the number of the entry in force for the file, in one pass over the entries.
+pub fn entries_in(store: &[u8], of: &[u8], row: &mut [u8])
+    ensures { λ _. ⌜ ((P : Policy) (rest f : List ℕ) → Loaded P rest (now (store .entry)) → Graded P f (now (of .entry)) → (r : ℕ) → r < length (P .roles) → r < length (now (row .exit)) → InForce P r f (byteAt (now (row .exit)) r)) ⌝ }
+{
+    let mut most = [0; 32];
+    let count = fields::entry_count(store);
+    for e in 0..count {
+        take_entry(store, of, e, &mut most, row);
+    }
 }
 
 // The place in an entry of the object for the file.
-pub fn object_in(store: &[u8], entry: u8, g: Grades) -> u8
-    ensures { λ r. ⌜ ((P : Policy) (rest f : List ℕ) → Loaded P rest (now (store .entry)) → Graded P f (g .of) → entry < length (P .entries) → Placed P entry f r) ⌝ }
+pub fn object_in(store: &[u8], entry: u8, of: &[u8]) -> u8
+    ensures { λ r. ⌜ ((P : Policy) (rest f : List ℕ) → Loaded P rest (now (store .entry)) → Graded P f (now (of .entry)) → entry < length (P .entries) → Placed P entry f r) ⌝ }
 {
-    let of = g.of;
+    let first = fields::first_object(store, entry);
     let count = fields::object_count(store, entry);
-    best_place(store, &of, Row::Objects(entry), count)
+    best_place(store, of, Row::Objects(first), count)
 }

@@ -4,7 +4,8 @@ use mathlib.Core.Path.{_≡_, refl}
 use mathlib.Core.Logic.{_⊎_, inl, inr}
 use mathlib.Core.Bool.{Bool, true, false}
 use mathlib.Core.List.{List}
-use Prim.Native.Nat.{ℕ, _+_, _<_}
+use Prim.Native.Nat.{ℕ, _+_, _≤_, _<_}
+use native.Mathlib.Decide.{decLt}
 use native.Mathlib.Nat.{not-suc-le-zero, eq-or-lt-of-le, le-of-suc-le-suc}
 use native.Mathlib.Numerals.{add-one}
 use native.Mathlib.Omega.{arith}
@@ -34,3 +35,11 @@ module _ (s : List ℕ) (Held : Policy → ℕ → ℕ → Type 0) where
       go : (i ≡ n) ⊎ (i < n) → Held P i (cell (set part n v) i)
       go (inl e) = rw (e, getD-set-same part n v 0 (omega (arith, inside))) (here P rest L)
       go (inr m) = rw (getD-set-other part n i v 0 (omega arith)) (before P rest L i m inside)
+
+  -- The cells from n on are as they are to be, whatever they hold.
+  pub region-past : (n m : ℕ) (part : List ℕ) → Region s Held n part → ((P : Policy) (rest : List ℕ) → Loaded P rest s → (i v : ℕ) → n ≤ i → i < m → Held P i v) → Region s Held m part
+  region-past n m part before past P rest L i h l = go (decLt i n)
+    where
+      go : Dec (i < n) → Held P i (cell part i)
+      go (yes below) = before P rest L i below l
+      go (no above) = past P rest L i (cell part i) (omega arith) h

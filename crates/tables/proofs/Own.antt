@@ -7,23 +7,20 @@ use Prim.Native.Nat.{ℕ, _+_, _<_}
 use lib.Dec.{eqb}
 use lib.ListN.{length, getD}
 use Rattle.paths.proofs.Bools.{eqb-to}
-use Rattle.gran.specs.Lists.{none, place, numbers}
+use Rattle.gran.specs.Lists.{none, place}
 use Rattle.gran.specs.Policy.{Policy}
 use Rattle.gran.specs.Match.{pathAt, isSubject, pathsOfS, subjectOf}
 use Rattle.gran.specs.Good.{Good}
 use Rattle.gran.proofs.Lists.{place-is}
-use Rattle.gran.proofs.Members.{at-mem, only-of}
-use Rattle.gran.proofs.Policies.{subjectOf-self}
+use Rattle.gran.proofs.Policies.{path-subject, subjectOf-self}
 
 module _ (P : Policy) (good : Good P) (c v : ℕ) (at : v ≡ place (eqb c) 0 (pathsOfS P)) (found : v ≡ none → ⊥) where
   pub stands-own : v ≡ place (eqb (subjectOf P (pathAt (P .paths) c))) 0 (pathsOfS P)
-  unfolding pathsOfS
   stands-own = go (place-is (eqb c) none 0 (pathsOfS P))
     where
       go : (place (eqb c) 0 (pathsOfS P) ≡ none) ⊎ ((j : ℕ) × (place (eqb c) 0 (pathsOfS P) ≡ 0 + j) × (j < length (pathsOfS P)) × So (eqb c (getD (pathsOfS P) j none)))
           → v ≡ place (eqb (subjectOf P (pathAt (P .paths) c))) 0 (pathsOfS P)
       go (inl z) = absurd (found (at ∙ z))
       go (inr (j, p, h, t)) =
-          let is : So (isSubject P (getD (pathsOfS P) j none)) = only-of (isSubject P) (numbers 0 (length (P .paths))) (at-mem none (pathsOfS P) j h) .1 in
-          let own : So (isSubject P c) = rw (eqb-to c (getD (pathsOfS P) j none) t) is in
+          let own : So (isSubject P c) = rw (eqb-to c (getD (pathsOfS P) j none) t) (path-subject P j h) in
           at ∙ ap (λ (x : ℕ). place (eqb x) 0 (pathsOfS P)) (sym (subjectOf-self P good c own))

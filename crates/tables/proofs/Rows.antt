@@ -13,14 +13,14 @@ use lib.ListN.{length, getD}
 use Rattle.gran.specs.Lists.{none}
 use Rattle.gran.specs.Policy.{Policy}
 use Rattle.gran.specs.Match.{pathAt}
+use Rattle.gran.proofs.Policies.{path-subject, subjects-named}
 use Rattle.runs.specs.Steps.{choices}
 use Rattle.store.specs.Held.{Loaded}
-use Rattle.fields.specs.Fields.{roleCount, entryCount, pathIn}
-use Rattle.fields.proofs.Header.{role-count, entry-count}
-use Rattle.fields.proofs.Paths.{path-read}
-use Rattle.lookup.specs.Lookup.{Graded}
+use Rattle.fields.specs.Fields.{entryCount}
+use Rattle.fields.proofs.Header.{entry-count}
+use Rattle.lookup.specs.Lookup.{Graded, InForce}
 use Rattle.tables.specs.Tables.{cell}
-use Rattle.tables.specs.Regions.{holds, Front, Region, offers, rowsFor, Offers, Forces, Places, Row, RowFilled, RowsFilled}
+use Rattle.tables.specs.Regions.{holds, Front, Region, offers, rowsFor, Offers, Places, Row, RowFilled, RowsFilled}
 use Rattle.rows.proofs.Parts.{part-length}
 use Rattle.tables.proofs.Front.{getD-any}
 use Rattle.tables.proofs.Parts.{put-own, put-other}
@@ -76,17 +76,17 @@ module _ (k m n : ℕ) (part force objects : List ℕ) (inside : k < 64) (long :
       put-other (2048 + 64 * k) n one objects (omega (arith, one-long)) objects-long j (λ out. omega (arith, b out))
       ∙ put-other (32 * k) m part force (omega arith) force-long j (λ out. omega (arith, a out))
 
-  pub row-filled : {s : List ℕ} (c : ℕ) (grades : List ℕ) → ((P : Policy) (rest : List ℕ) → Loaded P rest s → Graded P (pathIn s c) grades)
-      → Region s (Forces grades) (roleCount s) force → Region s (Places grades) (entryCount s) objects
+  pub row-filled : {s : List ℕ} (c : ℕ) (grades : List ℕ) → ((P : Policy) (rest : List ℕ) → Loaded P rest s → c < length (P .paths) → Graded P (pathAt (P .paths) c) grades)
+      → ((P : Policy) (rest f : List ℕ) → Loaded P rest s → Graded P f grades → (r : ℕ) → r < length (P .roles) → r < length force → InForce P r f (cell force r)) → Region s (Places grades) (entryCount s) objects
       → RowFilled s c k part (putMid (2048 + 64 * k) n (putMid (32 * k) m part force) objects)
   unfolding one
   row-filled c grades graded forced placed = record {
-    own = λ P rest L.
-        let file : Graded P (pathAt (P .paths) c) grades = rw (path-read L c) at (graded P rest L) in
+    own = λ P rest L named.
+        let file = graded P rest L named in
         record {
           force = λ r h.
               let few : r < 32 = omega (arith, L .fits .roles) in
-              rw (in-force r few) (forced P rest L r (omega (arith, role-count L)) (omega (arith, force-long)) (pathAt (P .paths) c) file h);
+              rw (in-force r few) (forced P rest (pathAt (P .paths) c) L file r h (omega (arith, force-long)));
           object = λ e h.
               let few : e < 64 = omega (arith, L .fits .entries) in
               rw (in-objects e few) (placed P rest L e (omega (arith, entry-count L)) (omega (arith, objects-long)) (pathAt (P .paths) c) file h);
@@ -102,6 +102,9 @@ pub rows-more : (s subjects : List ℕ) (k : ℕ) (part after : List ℕ) → k 
     → RowFilled s (getD subjects k 0) k part after → RowsFilled s subjects (k + 1) after
 rows-more s subjects k part after h few rows filled P rest L own j l = go (eq-or-lt-of-le (le-of-suc-le-suc (rw add-one at l)))
   where
+    named : getD subjects k 0 < length (P .paths)
+    named = rw (← getD-any subjects k none 0 h, own) (subjects-named P (L .good) _ (path-subject P k (rw own at h)))
+
     go : (j ≡ k) ⊎ (j < k) → Row P (pathAt (P .paths) (getD subjects j none)) j after
-    go (inl e) = rw (e, getD-any subjects k none 0 h) (filled .own P rest L)
+    go (inl e) = rw (e, getD-any subjects k none 0 h) (filled .own P rest L named)
     go (inr m) = filled .others P rest (pathAt (P .paths) (getD subjects j none)) L j (omega arith) (omega arith) (rows P rest L own j m)

@@ -50,6 +50,10 @@ Named k = (k ≡ USER) ⊎ (k ≡ GROUP)
 abbrev pub Choice : Policy → ℕ → ℕ → Type 0
 Choice P k r = (r ≡ none) ⊎ ((r < length (P .roles)) × So (ofKind k (getD (P .roles) r noRole)))
 
+-- The first n of a list that has room for the choices of a kind are all of them.
+abbrev pub Counted : List ℕ → ℕ → ℕ → ℕ → Type 0
+Counted s k room n = (P : Policy) (rest : List ℕ) → Loaded P rest s → length (choices P k) ≤ room → length (choices P k) ≤ n
+
 -- Row a offers the choice c: role a may take the special role c; entry a allows an id that has the user or group role c.
 unfoldable pub offers : Policy → ℕ → ℕ → ℕ → Bool
 offers P k a c = cond (eqb k SPECIAL) (mayTake P a c) (reaches P k (allowedOf k (entryAt P a)) c)
@@ -58,17 +62,13 @@ offers P k a c = cond (eqb k SPECIAL) (mayTake P a c) (reaches P k (allowedOf k 
 unfoldable pub rowsFor : Policy → ℕ → ℕ
 rowsFor P k = cond (eqb k SPECIAL) (length (P .roles)) (length (P .entries))
 
--- Cell i: row i / w offers choice i % w, for w choices.
+-- Cell i: row i / w offers choice i % w, in rows of w cells, as many as the list has places.
 abbrev pub Offers : ℕ → List ℕ → Policy → ℕ → ℕ → Type 0
 Offers k cs P i v =
     length (choices P k) ≤ length cs → Front (choices P k) cs → i / length cs < rowsFor P k → i % length cs < length (choices P k)
     → holds v ≡ offers P k (i / length cs) (getD (choices P k) (i % length cs) none)
 
--- Cell r: the entry in force in role r for the file that has the grades.
-abbrev pub Forces : List ℕ → Policy → ℕ → ℕ → Type 0
-Forces grades P r v = (f : List ℕ) → Graded P f grades → r < length (P .roles) → InForce P r f v
-
--- Cell e: the place in entry e of the object for that file.
+-- Cell e: the place in entry e of the object for the file that has the grades.
 abbrev pub Places : List ℕ → Policy → ℕ → ℕ → Type 0
 Places grades P e v = (f : List ℕ) → Graded P f grades → e < length (P .entries) → Placed P e f v
 
@@ -86,7 +86,7 @@ pub record Lists (P : Policy) (part : List ℕ) : Type 0 where
 
 -- Filling the rows of subject k, which is path c: they are there, and those of other subjects are as before.
 pub record RowFilled (s : List ℕ) (c k : ℕ) (before after : List ℕ) : Type 0 where
-  pub own : (P : Policy) (rest : List ℕ) → Loaded P rest s → Row P (pathAt (P .paths) c) k after
+  pub own : (P : Policy) (rest : List ℕ) → Loaded P rest s → c < length (P .paths) → Row P (pathAt (P .paths) c) k after
   pub others : (P : Policy) (rest f : List ℕ) → Loaded P rest s → (j : ℕ) → j < 64 → (j ≡ k → ⊥) → Row P f j before → Row P f j after
 
 -- The rows of the first n subjects.

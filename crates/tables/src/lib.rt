@@ -9,15 +9,16 @@ ghost use Rattle.gran.specs.Lists.{place};
 ghost use Rattle.gran.specs.Policy.{Policy, SPECIAL};
 ghost use Rattle.gran.specs.Match.{pathsOfS, isSubject};
 ghost use Rattle.gran.specs.Role.{allows};
+ghost use Rattle.gran.specs.Good.{rolesOf};
 ghost use Rattle.gran.specs.Access.{grants};
 ghost use Rattle.gran.specs.Abstract.{reaches};
 ghost use Rattle.runs.specs.Steps.{choices};
 ghost use Rattle.store.specs.Held.{Loaded};
-ghost use Rattle.fields.specs.Fields.{roleCount, pathCount, entryCount};
+ghost use Rattle.fields.specs.Fields.{pathCount, entryCount};
 ghost use Rattle.lookup.specs.Lookup.{entryAt, Graded};
 ghost use Rattle.ids.specs.Ids.{allowedOf};
-ghost use Rattle.tables.specs.Tables.{Tabled};
-ghost use Rattle.tables.specs.Regions.{flagOf, Front, Region, Stands, Grants, Named, Choice, Offers, offers, rowsFor, Forces, Places, Lists, Tests, RowFilled, RowsFilled};
+ghost use Rattle.tables.specs.Tables.{cell, Tabled};
+ghost use Rattle.tables.specs.Regions.{holds, flagOf, Front, Region, Stands, Grants, Named, Choice, Counted, Offers, offers, rowsFor, Places, Lists, Tests, RowFilled, RowsFilled};
 use ids::GROUP;
 use ids::USER;
 
@@ -57,30 +58,29 @@ fn fill_choices(store: &[u8], kind: u8, part: &mut [u8])
     }
 }
 
-// Whether some entry has path `c` as its subject.
-fn is_subject(store: &[u8], c: u8) -> bool
-    ensures { λ r. ⌜ ((P : Policy) (rest : List ℕ) → Loaded P rest (now (store .entry)) → r ≡ isSubject P c) ⌝ }
+// For each number that a path can have a mark, set where some entry has that path as its subject.
+fn subject_marks(store: &[u8]) -> [u8; 256]
+    ensures { λ r. ⌜ ((P : Policy) (rest : List ℕ) → Loaded P rest (now (store .entry)) → (c : ℕ) → c < 256 → holds (cell r c) ≡ isSubject P c) ⌝ }
 {
+    let mut marks = [0u8; 256];
     let count = fields::entry_count(store);
-    let mut e: u8 = 0;
-    while e < count {
-        if c == fields::entry_subject(store, e) {
-            return true;
-        }
-        e += 1;
+    for e in 0..count {
+        let c = fields::entry_subject(store, e);
+        marks[c as usize] = 1;
     }
-    false
+    marks
 }
 
 // The paths in S by number. What is written behind them is no subject.
 fn fill_subjects(store: &[u8], part: &mut [u8])
     ensures { λ _. ⌜ ((P : Policy) (rest : List ℕ) → Loaded P rest (now (store .entry)) → Front (pathsOfS P) (now (part .exit))) ⌝ }
 {
+    let marks = subject_marks(store);
     let count = fields::path_count(store);
     let mut at: usize = 0;
     for c in 0..count {
         put(part, at, c);
-        if is_subject(store, c) {
+        if marks[c as usize] != 0 {
             at += 1;
         }
     }
@@ -131,8 +131,7 @@ fn stand(store: &[u8], subjects: &[u8], c: u8) -> u8
     if own != gran::NONE {
         return own;
     }
-    let g = lookup::grades_for(store, fields::path(store, c));
-    place_in(subjects, lookup::subject_of(store, g))
+    lookup::closest_in(store, fields::path(store, c), subjects)
 }
 
 fn fill_stands(store: &[u8], subjects: &[u8], part: &mut [u8])
@@ -147,22 +146,22 @@ fn fill_stands(store: &[u8], subjects: &[u8], part: &mut [u8])
 }
 
 // Whether entry `e` grants the access to the file that has the grades.
-fn grants_in(store: &[u8], g: lookup::Grades, kind: u8, e: u8) -> bool
-    ensures { λ r. ⌜ ((P : Policy) (rest f : List ℕ) → Loaded P rest (now (store .entry)) → Graded P f (g .of) → e < length (P .entries) → r ≡ grants P kind (entryAt P e) f) ⌝ }
+fn grants_in(store: &[u8], of: &[u8], kind: u8, e: u8) -> bool
+    ensures { λ r. ⌜ ((P : Policy) (rest f : List ℕ) → Loaded P rest (now (store .entry)) → Graded P f (now (of .entry)) → e < length (P .entries) → r ≡ grants P kind (entryAt P e) f) ⌝ }
 {
-    let i = lookup::object_in(store, e, g);
+    let i = lookup::object_in(store, e, of);
     let modes = gran::Modes {
         bits: fields::object_modes(store, e, i),
     };
     modes.grants(kind)
 }
 
-fn fill_grants(store: &[u8], g: lookup::Grades, kind: u8, part: &mut [u8])
-    ensures { λ _. ⌜ Region (now (store .entry)) (Grants kind (g .of)) (entryCount (now (store .entry))) (now (part .exit)) ⌝ }
+fn fill_grants(store: &[u8], of: &[u8], kind: u8, part: &mut [u8])
+    ensures { λ _. ⌜ Region (now (store .entry)) (Grants kind (now (of .entry))) (entryCount (now (store .entry))) (now (part .exit)) ⌝ }
 {
     let count = fields::entry_count(store);
     for e in 0..count {
-        let test = grants_in(store, g, kind, e);
+        let test = grants_in(store, of, kind, e);
         put(part, e as usize, flag(test));
     }
 }
@@ -200,50 +199,71 @@ fn offered(store: &[u8], kind: u8, row: u8, choice: u8) -> bool
     reach(store, kind, row, choice)
 }
 
-// Which of the choices a row has, in the cells from `at` on.
-fn fill_offer_row(store: &[u8], kind: u8, row: u8, choices: &[u8], at: usize, part: &mut [u8])
+// How many roles there are of a kind.
+fn roles_of(store: &[u8], kind: u8) -> u8
     requires { ⌜ ((kind ≡ SPECIAL → ⊥) → Named kind) ⌝ }
-    requires { ⌜ (at ≡ row * length (now choices)) × (length (now choices) ≤ 16) ⌝ }
-    ensures { λ _. ⌜ (Region (now (store .entry)) (Offers kind (now (choices .entry))) at (now (part .entry)) → Region (now (store .entry)) (Offers kind (now (choices .entry))) (at + length (now (choices .entry))) (now (part .exit))) ⌝ }
+    ensures { λ r. ⌜ ((P : Policy) (rest : List ℕ) → Loaded P rest (now (store .entry)) → r ≡ length (rolesOf P kind)) ⌝ }
 {
-    for j in 0..choices.len() {
+    if kind == SPECIAL {
+        return fields::special_count(store);
+    }
+    if kind == USER {
+        return fields::user_count(store);
+    }
+    fields::group_count(store)
+}
+
+// How many of the first cells of a list may hold a choice of the kind: none and its roles, as far as there is room.
+fn choice_count(store: &[u8], kind: u8, room: usize) -> usize
+    requires { ⌜ ((kind ≡ SPECIAL → ⊥) → Named kind) ⌝ }
+    ensures { λ r. ⌜ (r ≤ room) × Counted (now (store .entry)) kind room r ⌝ }
+{
+    let count = 1 + roles_of(store, kind) as usize;
+    if count < room { count } else { room }
+}
+
+// Which of the first `count` choices a row has, in the cells from `at` on.
+fn fill_offer_row(
+    store: &[u8],
+    kind: u8,
+    row: u8,
+    choices: &[u8],
+    count: usize,
+    at: usize,
+    part: &mut [u8],
+)
+    requires { ⌜ ((kind ≡ SPECIAL → ⊥) → Named kind) ⌝ }
+    requires { ⌜ (at ≡ row * length (now choices)) × (length (now choices) ≤ 16) × (count ≤ length (now choices)) ⌝ }
+    ensures { λ _. ⌜ (Counted (now (store .entry)) kind (length (now (choices .entry))) count → Region (now (store .entry)) (Offers kind (now (choices .entry))) at (now (part .entry)) → Region (now (store .entry)) (Offers kind (now (choices .entry))) (at + length (now (choices .entry))) (now (part .exit))) ⌝ }
+{
+    for j in 0..count {
         let test = offered(store, kind, row, choices[j]);
         put(part, at + j, flag(test));
     }
 }
 
-// For each of the rows which of the choices it has.
+// For each of the rows which of the choices it has. A row has a cell for each place of the list; those behind the choices are left.
 fn fill_offers(store: &[u8], kind: u8, rows: u8, choices: &[u8], part: &mut [u8])
     requires { ⌜ ((kind ≡ SPECIAL → ⊥) → Named kind) ⌝ }
     requires { ⌜ (0 < length (now choices)) × (length (now choices) ≤ 16) ⌝ }
     ensures { λ _. ⌜ Region (now (store .entry)) (Offers kind (now (choices .entry))) (rows * length (now (choices .entry))) (now (part .exit)) ⌝ }
 {
     let width = choices.len();
+    let count = choice_count(store, kind, width);
     let mut at: usize = 0;
     for row in 0..rows {
-        fill_offer_row(store, kind, row, choices, at, part);
+        fill_offer_row(store, kind, row, choices, count, at, part);
         at += width;
     }
 }
 
-// For each role the entry in force for the file that has the grades.
-fn fill_force(store: &[u8], g: lookup::Grades, row: &mut [u8])
-    ensures { λ _. ⌜ Region (now (store .entry)) (Forces (g .of)) (roleCount (now (store .entry))) (now (row .exit)) ⌝ }
-{
-    let count = fields::role_count(store);
-    for r in 0..count {
-        let entry = lookup::entry_in(store, r, g);
-        put(row, r as usize, entry);
-    }
-}
-
-// For each entry the place of the object for that file.
-fn fill_places(store: &[u8], g: lookup::Grades, row: &mut [u8])
-    ensures { λ _. ⌜ Region (now (store .entry)) (Places (g .of)) (entryCount (now (store .entry))) (now (row .exit)) ⌝ }
+// For each entry the place of the object for the file that has the grades.
+fn fill_places(store: &[u8], of: &[u8], row: &mut [u8])
+    ensures { λ _. ⌜ Region (now (store .entry)) (Places (now (of .entry))) (entryCount (now (store .entry))) (now (row .exit)) ⌝ }
 {
     let count = fields::entry_count(store);
     for e in 0..count {
-        let place = lookup::object_in(store, e, g);
+        let place = lookup::object_in(store, e, of);
         put(row, e as usize, place);
     }
 }
@@ -254,11 +274,12 @@ fn fill_row(store: &[u8], c: u8, k: usize, part: &mut [u8])
     requires { ⌜ length (now part) ≡ 6144 ⌝ }
     ensures { λ _. ⌜ RowFilled (now (store .entry)) c k (now (part .entry)) (now (part .exit)) ⌝ }
 {
-    let g = lookup::grades_for(store, fields::path(store, c));
+    let g = lookup::grades_of(store, c);
+    let of = g.of;
     let force = 32 * k;
-    fill_force(store, g, &mut part[force..force + 32]);
+    lookup::entries_in(store, &of, &mut part[force..force + 32]);
     let objects = 2048 + 64 * k;
-    fill_places(store, g, &mut part[objects..objects + 64]);
+    fill_places(store, &of, &mut part[objects..objects + 64]);
 }
 
 // The rows of all subjects.
@@ -279,10 +300,11 @@ fn fill_tests(store: &[u8], target: &[u8], kind: u8, lists: &[u8], part: &mut [u
     ensures { λ _. ⌜ ((P : Policy) (rest : List ℕ) → Loaded P rest (now (store .entry)) → Lists P (now (lists .entry)) → Tests P (record { kind = kind; target = now (target .entry) }) (now (part .exit))) ⌝ }
 {
     let g = lookup::grades_for(store, target);
+    let of = g.of;
     let roles = fields::role_count(store);
     let entries = fields::entry_count(store);
     let fallback = ids::default_role(store);
-    fill_grants(store, g, kind, &mut part[0..64]);
+    fill_grants(store, &of, kind, &mut part[0..64]);
     fill_offers(store, SPECIAL, roles, &lists[0..8], &mut part[64..304]);
     put(&mut part[304..320], 0, fallback);
     fill_offers(store, GROUP, entries, &lists[24..32], &mut part[320..832]);

@@ -7,25 +7,11 @@ use Rattle.fields.proofs.object_path.Tie as tie
 first-object-requires : tie.Need-first-object-requires
 first-object-requires c κs = search needs
 
-cast-place : tie.Need-cast-place
-cast-place c = search needs
-
-add-place : tie.Need-add-place
-add-place c = search needs
-
-mul-byte : tie.Need-mul-byte
-mul-byte c = search needs
-
-add-byte : tie.Need-add-byte
-add-byte c = search needs
-
-byte-requires : tie.Need-byte-requires
-byte-requires c κs = search needs
+path-from-requires : tie.Need-path-from-requires
+path-from-requires c κs = search needs
 
 returns : tie.Need-returns
 returns c = cc
 
 pub object-path-spec : {M : Type 1} → statement M
-object-path-spec =
-    tie.close
-    (tie.spec first-object-requires cast-place add-place mul-byte add-byte byte-requires returns)
+object-path-spec = tie.close (tie.spec first-object-requires path-from-requires returns)

@@ -51,11 +51,8 @@ returns-2 c =
 word-requires : tie.Need-word-requires
 word-requires c κs = search needs
 
-add-byte : tie.Need-add-byte
-add-byte c = search needs
-
-byte-requires : tie.Need-byte-requires
-byte-requires c κs = search needs
+path-size-requires : tie.Need-path-size-requires
+path-size-requires c κs = search needs
 
 pool-part-requires : tie.Need-pool-part-requires
 pool-part-requires c κs = search needs
@@ -84,7 +81,6 @@ path-spec =
     part-result-end-2
     returns-2
     word-requires
-    add-byte
-    byte-requires
+    path-size-requires
     pool-part-requires
     returns-3)

@@ -8,16 +8,13 @@ use Rattle.lookup.proofs.entry_in.Tie as tie
 entry-count-requires : tie.Need-entry-count-requires
 entry-count-requires c κs = search needs
 
-slice-aggregate-best-place : tie.Need-slice-aggregate-best-place
-slice-aggregate-best-place c = search needs
-
 best-place-requires : tie.Need-best-place-requires
 best-place-requires c κs = search needs
 
 returns : tie.Need-returns
-returns c P rest f L graded known = rw (c .best-place .ensures, c .before .before .entry-count .ensures) (entry-found L f _ graded _ known)
+returns c P rest f L graded known = rw (c .best-place .ensures, c .before .entry-count .ensures) (entry-found L f _ graded _ known)
 
 pub entry-in-spec : {M : Type 1} → statement M
 entry-in-spec =
     tie.close
-    (tie.spec entry-count-requires slice-aggregate-best-place best-place-requires returns)
+    (tie.spec entry-count-requires best-place-requires returns)

@@ -23,8 +23,8 @@ role-grade-requires c κs = search needs
 enum-known-row-2 : tie.Need-enum-known-row-2
 enum-known-row-2 c = search needs
 
-object-path-requires : tie.Need-object-path-requires
-object-path-requires c κs = search needs
+path-from-requires : tie.Need-path-from-requires
+path-from-requires c κs = search needs
 
 grade-of-requires-2 : tie.Need-grade-of-requires-2
 grade-of-requires-2 c κs = search needs
@@ -50,7 +50,7 @@ grade-at-spec =
     enum-known-row
     role-grade-requires
     enum-known-row-2
-    object-path-requires
+    path-from-requires
     grade-of-requires-2
     returns
     returns-2

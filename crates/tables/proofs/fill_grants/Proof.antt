@@ -11,16 +11,16 @@ use Rattle.tables.proofs.fill_grants.Statement.{statement}
 use Rattle.tables.proofs.fill_grants.Tie as tie
 
 abbrev Inv-loop : tie.InvT-loop
-Inv-loop store g kind part₀ count e₀ part e = (e ≤ count) × (length part ≡ length part₀) × Region store (Grants kind (g .of)) e part
+Inv-loop store of kind part₀ count e₀ part e = (e ≤ count) × (length part ≡ length part₀) × Region store (Grants kind of) e part
 
 abbrev μ-loop : tie.MeasureT-loop
-μ-loop store g kind part₀ count e₀ part e = count - e
+μ-loop store of kind part₀ count e₀ part e = count - e
 
 entry-count-requires : tie.Need-entry-count-requires Inv-loop μ-loop
 entry-count-requires c κs = search needs
 
 loop-holds : tie.Need-loop-holds Inv-loop μ-loop
-loop-holds c = (omega arith, refl, region-none (c .before .before .before .args .store .now) (Grants (c .before .before .before .args .kind) (c .before .before .before .args .g .of)) (c .before .before .before .args .part .now))
+loop-holds c = (omega arith, refl, region-none (c .before .before .before .before .args .store .now) (Grants (c .before .before .before .before .args .kind) (c .before .before .before .before .args .of .now)) (c .before .before .before .before .args .part .now))
 
 grants-in-requires : tie.Need-grants-in-requires Inv-loop μ-loop
 grants-in-requires c κs = search needs
@@ -42,14 +42,14 @@ loop-less c = search needs
 
 loop-again : tie.Need-loop-again Inv-loop μ-loop
 loop-again c =
-    let s = c .before .before .before .before .before .before .before .before .before .before .before in
+    let s = c .before .before .before .before .before .before .before .before .before .before .before .before in
     let l = c .before .before .before .before .before .before .before .loop in
     let grants-in = c .before .before .before .before .before .grants-in in
     let flag = c .before .before .before .flag in (
       omega arith,
       omega (arith, c .before .before .put .kept .0),
       rw (c .before .before .put .ensures)
-          (region-more (s .args .store .now) (Grants (s .args .kind) (s .args .g .of)) (l .e) (flag .result) (l .part) (l .inv .2) (λ P rest L f graded h. rw (flag .ensures) (holds-flag (grants-in .result)) ∙ grants-in .ensures P rest f L graded h)),
+          (region-more (s .args .store .now) (Grants (s .args .kind) (s .args .of .now)) (l .e) (flag .result) (l .part) (l .inv .2) (λ P rest L f graded h. rw (flag .ensures) (holds-flag (grants-in .result)) ∙ grants-in .ensures P rest f L graded h)),
     )
 
 same-length : tie.Need-same-length Inv-loop μ-loop

@@ -7,19 +7,19 @@ use native.Mathlib.Omega.{arith}
 use borrow.Author.Needs.{needs}
 use lib.ListN.{length}
 use Rattle.tables.specs.Regions.{Region, Offers}
-use Rattle.tables.proofs.Cells.{region-more, holds-flag}
-use Rattle.tables.proofs.Offers.{few-cells, offers-at}
+use Rattle.tables.proofs.Cells.{region-more, region-past, holds-flag}
+use Rattle.tables.proofs.Offers.{few-cells, offers-at, offers-past}
 use Rattle.tables.proofs.fill_offer_row.Statement.{statement}
 use Rattle.tables.proofs.fill_offer_row.Tie as tie
 
 abbrev Inv-loop : tie.InvT-loop
-Inv-loop store kind row choices at part₀ j₀ j-end part j = (j ≤ j-end) × (j-end ≡ length choices) × (length part ≡ length part₀) × (Region store (Offers kind choices) at part₀ → Region store (Offers kind choices) (at + j) part)
+Inv-loop store kind row choices count at part₀ j₀ part j = (j ≤ count) × (length part ≡ length part₀) × (Region store (Offers kind choices) at part₀ → Region store (Offers kind choices) (at + j) part)
 
 abbrev μ-loop : tie.MeasureT-loop
-μ-loop store kind row choices at part₀ j₀ j-end part j = j-end - j
+μ-loop store kind row choices count at part₀ j₀ part j = count - j
 
 loop-holds : tie.Need-loop-holds Inv-loop μ-loop
-loop-holds c = (omega arith, refl, refl, λ before. rw (add-zero (c .before .before .before .args .at)) before)
+loop-holds c = (omega arith, refl, λ before. rw (add-zero (c .before .before .before .args .at)) before)
 
 shared-slice-read-offered : tie.Need-shared-slice-read-offered Inv-loop μ-loop
 shared-slice-read-offered c = omega arith
@@ -28,7 +28,10 @@ offered-requires : tie.Need-offered-requires Inv-loop μ-loop
 offered-requires c κs = c .before .before .before .before .before .before .pre .0
 
 add-put : tie.Need-add-put Inv-loop μ-loop
-add-put c = record { fits = omega (arith, c .before .before .before .before .loop .inv, c .before .before .before .loop-test .taken, c .before .before .before .before .before .before .before .before .pre .1, few-cells (c .before .before .before .before .before .before .before .before .args .row) (length (c .before .before .before .before .before .before .before .before .args .choices .now)) (c .before .before .before .before .before .before .before .before .fits .row .fits) (c .before .before .before .before .before .before .before .before .pre .1 .1)) }
+add-put c =
+    let s = c .before .before .before .before .before .before .before .before in
+    let few = few-cells (s .args .row) (length (s .args .choices .now)) (s .fits .row .fits) (s .pre .1 .1) in
+    record { fits = omega (arith, c .before .before .before .before .loop .inv, c .before .before .before .loop-test .taken, s .pre .1, few) }
 
 flag-requires : tie.Need-flag-requires Inv-loop μ-loop
 flag-requires c κs = search needs
@@ -48,10 +51,9 @@ loop-again c =
     let loop = c .before .before .before .before .before .before .before .before .loop in
     let next : args .at + (loop .j + 1) ≡ args .at + loop .j + 1 = omega arith in (
       omega arith,
-      refl,
       omega (arith, c .before .before .put .kept .0),
-      λ before. rw (next, c .before .before .put .ensures) (region-more (args .store .now) (Offers (args .kind) (args .choices .now)) (args .at + loop .j) (c .before .before .before .flag .result) (loop .part) (loop .inv .3 before)
-          (λ P rest L. offers-at P (args .kind) (args .choices .now) (args .row) (args .at) (c .before .before .before .before .before .before .before .before .before .before .before .before .pre .1 .0) (loop .j) _ (omega (arith, c .before .before .before .before .before .before .before .loop-test .taken, loop .inv .1))
+      λ before. rw (next, c .before .before .put .ensures) (region-more (args .store .now) (Offers (args .kind) (args .choices .now)) (args .at + loop .j) (c .before .before .before .flag .result) (loop .part) (loop .inv .2 before)
+          (λ P rest L. offers-at P (args .kind) (args .choices .now) (args .row) (args .at) (c .before .before .before .before .before .before .before .before .before .before .before .before .pre .1 .0) (loop .j) _ (omega (arith, c .before .before .before .before .before .before .before .loop-test .taken, c .before .before .before .before .before .before .before .before .before .before .before .before .pre .1 .2))
           (λ h choice. rw (c .before .before .before .flag .ensures) (holds-flag (c .before .before .before .before .before .offered .result)) ∙ c .before .before .before .before .before .offered .ensures P rest L h choice))),
     )
 
@@ -59,7 +61,13 @@ same-length : tie.Need-same-length Inv-loop μ-loop
 same-length c = search needs
 
 returns : tie.Need-returns Inv-loop μ-loop
-returns c before = let e : c .before .loop .j ≡ length (c .before .before .before .before .before .args .choices .now) = omega arith in rw e at (c .before .loop .inv .3 before)
+returns c counted before =
+    let s = c .before .before .before .before .before in
+    let args = s .args in
+    let end : c .before .loop .j ≡ args .count = omega arith in
+    region-past (args .store .now) (Offers (args .kind) (args .choices .now)) (args .at + args .count) (args .at + length (args .choices .now)) (c .before .loop .part)
+    (rw end at (c .before .loop .inv .2 before))
+    (λ P rest L i v. offers-past P (args .kind) (args .choices .now) (args .row) (args .at) (s .pre .1 .0) (args .count) i v (counted P rest L))
 
 pub fill-offer-row-spec : {M : Type 1} → statement M
 fill-offer-row-spec =

@@ -1,7 +1,7 @@
 -- `fill_offers` meets its contract: the cells of each row that was passed say what it has.
 -- Assumes nothing.
 use mathlib.Core.Path.{_≡_, refl, ap, sym, _∙_}
-use Prim.Native.Nat.{ℕ, _+_, _*_, _-_, _≤_}
+use Prim.Native.Nat.{ℕ, _+_, _*_, _-_, _≤_, _<_}
 use native.Mathlib.Numerals.{add-one}
 use native.Mathlib.Nat.{zero-mul, suc-mul}
 use native.Mathlib.Omega.{arith}
@@ -14,19 +14,30 @@ use Rattle.tables.proofs.fill_offers.Statement.{statement}
 use Rattle.tables.proofs.fill_offers.Tie as tie
 
 abbrev Inv-loop : tie.InvT-loop
-Inv-loop store kind rows choices part₀ width at₀ row₀ part at row = (row ≤ rows) × (width ≡ length choices) × (at ≡ row * length choices) × (length part ≡ length part₀) × Region store (Offers kind choices) at part
+Inv-loop store kind rows choices part₀ width count at₀ row₀ part at row = (row ≤ rows) × (width ≡ length choices) × (at ≡ row * length choices) × (length part ≡ length part₀) × Region store (Offers kind choices) at part
 
 abbrev μ-loop : tie.MeasureT-loop
-μ-loop store kind rows choices part₀ width at₀ row₀ part at row = rows - row
+μ-loop store kind rows choices part₀ width count at₀ row₀ part at row = rows - row
+
+choice-count-requires : tie.Need-choice-count-requires Inv-loop μ-loop
+choice-count-requires c κs = c .before .before .before .pre .0
 
 loop-holds : tie.Need-loop-holds Inv-loop μ-loop
-loop-holds c = (omega arith, refl, sym (zero-mul (length (c .before .before .before .args .choices .now))), refl, region-none (c .before .before .before .args .store .now) (Offers (c .before .before .before .args .kind) (c .before .before .before .args .choices .now)) (c .before .before .before .args .part .now))
+loop-holds c =
+    let args = c .before .before .before .before .args in
+    (omega arith, refl, sym (zero-mul (length (args .choices .now))), refl, region-none (args .store .now) (Offers (args .kind) (args .choices .now)) (args .part .now))
 
 fill-offer-row-requires : tie.Need-fill-offer-row-requires Inv-loop μ-loop
-fill-offer-row-requires c κs = (c .before .before .before .before .before .before .pre .0, (c .before .before .loop .inv .2, c .before .before .before .before .before .before .pre .1 .1))
+fill-offer-row-requires c κs =
+    let pre = c .before .before .before .before .before .before .before .pre in
+    (pre .0, (c .before .before .loop .inv .2, pre .1 .1, c .before .before .before .choice-count .ensures .0))
 
 add-at : tie.Need-add-at Inv-loop μ-loop
-add-at c = record { fits = omega (arith, c .before .before .before .before .before .loop .inv .2, c .before .before .before .before .before .before .before .before .before .pre .1, few-cells (c .before .before .before .before .before .loop .row) (length (c .before .before .before .before .before .before .before .before .before .args .choices .now)) (omega (arith, c .before .before .before .before .loop-test .taken, c .before .before .before .before .before .before .before .before .before .fits .rows .fits)) (c .before .before .before .before .before .before .before .before .before .pre .1 .1)) }
+add-at c =
+    let s = c .before .before .before .before .before .before .before .before .before .before in
+    let d = c .before .before .before .before in
+    let row : d .before .loop .row < 256 = omega (arith, d .loop-test .taken, s .fits .rows .fits) in
+    record { fits = omega (arith, d .before .loop .inv .2, s .pre .1, few-cells (d .before .loop .row) (length (s .args .choices .now)) row (s .pre .1 .1)) }
 
 add-row : tie.Need-add-row Inv-loop μ-loop
 add-row c = search needs
@@ -36,20 +47,20 @@ loop-less c = omega arith
 
 loop-again : tie.Need-loop-again Inv-loop μ-loop
 loop-again c =
-    let w = length (c .before .before .before .before .before .before .before .before .before .args .choices .now) in
+    let w = length (c .before .before .before .before .before .before .before .before .before .before .args .choices .now) in
     let loop = c .before .before .before .before .before .loop in (
       omega arith,
       refl,
       ap (λ (n : ℕ). n + w) (loop .inv .2) ∙ rw (add-one, suc-mul (loop .row) w) refl,
-      omega (arith, c .before .before .fill-offer-row .kept .1 .1 .1 .1 .1 .0),
-      c .before .before .fill-offer-row .ensures (loop .inv .4),
+      omega (arith, c .before .before .fill-offer-row .kept .1 .1 .1 .1 .1 .1 .0),
+      c .before .before .fill-offer-row .ensures (c .before .before .before .before .before .before .choice-count .ensures .1) (loop .inv .4),
     )
 
 same-length : tie.Need-same-length Inv-loop μ-loop
 same-length c = search needs
 
 returns : tie.Need-returns Inv-loop μ-loop
-returns c P rest L i h = let e : c .before .loop .row ≡ c .before .before .before .before .before .args .rows = omega arith in c .before .loop .inv .4 P rest L i (rw (c .before .loop .inv .2, e) h)
+returns c P rest L i h = let e : c .before .loop .row ≡ c .before .before .before .before .before .before .args .rows = omega arith in c .before .loop .inv .4 P rest L i (rw (c .before .loop .inv .2, e) h)
 
 pub fill-offers-spec : {M : Type 1} → statement M
 fill-offers-spec =
@@ -57,6 +68,7 @@ fill-offers-spec =
     (tie.spec
     Inv-loop
     μ-loop
+    choice-count-requires
     loop-holds
     fill-offer-row-requires
     add-at

@@ -11,16 +11,16 @@ use Rattle.tables.proofs.fill_places.Statement.{statement}
 use Rattle.tables.proofs.fill_places.Tie as tie
 
 abbrev Inv-loop : tie.InvT-loop
-Inv-loop store g row₀ count e₀ row e = (e ≤ count) × (length row ≡ length row₀) × Region store (Places (g .of)) e row
+Inv-loop store of row₀ count e₀ row e = (e ≤ count) × (length row ≡ length row₀) × Region store (Places of) e row
 
 abbrev μ-loop : tie.MeasureT-loop
-μ-loop store g row₀ count e₀ row e = count - e
+μ-loop store of row₀ count e₀ row e = count - e
 
 entry-count-requires : tie.Need-entry-count-requires Inv-loop μ-loop
 entry-count-requires c κs = search needs
 
 loop-holds : tie.Need-loop-holds Inv-loop μ-loop
-loop-holds c = (omega arith, refl, region-none (c .before .before .before .args .store .now) (Places (c .before .before .before .args .g .of)) (c .before .before .before .args .row .now))
+loop-holds c = (omega arith, refl, region-none (c .before .before .before .before .args .store .now) (Places (c .before .before .before .before .args .of .now)) (c .before .before .before .before .args .row .now))
 
 object-in-requires : tie.Need-object-in-requires Inv-loop μ-loop
 object-in-requires c κs = search needs
@@ -39,13 +39,13 @@ loop-less c = search needs
 
 loop-again : tie.Need-loop-again Inv-loop μ-loop
 loop-again c =
-    let s = c .before .before .before .before .before .before .before .before .before .before in
+    let s = c .before .before .before .before .before .before .before .before .before .before .before in
     let l = c .before .before .before .before .before .before .loop in
     let object-in = c .before .before .before .before .object-in in (
       omega arith,
       omega (arith, c .before .before .put .kept .0),
       rw (c .before .before .put .ensures)
-          (region-more (s .args .store .now) (Places (s .args .g .of)) (l .e) (object-in .result) (l .row) (l .inv .2) (λ P rest L f graded h. object-in .ensures P rest f L graded h)),
+          (region-more (s .args .store .now) (Places (s .args .of .now)) (l .e) (object-in .result) (l .row) (l .inv .2) (λ P rest L f graded h. object-in .ensures P rest f L graded h)),
     )
 
 same-length : tie.Need-same-length Inv-loop μ-loop

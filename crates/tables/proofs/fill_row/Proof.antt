@@ -1,46 +1,44 @@
 -- `fill_row` meets its contract: the two parts come back filled.
 -- Assumes nothing.
-use mathlib.Core.List.{List}
-use Prim.Native.Nat.{ℕ, _+_, _*_, _-_}
+use Prim.Native.Nat.{_+_, _*_, _-_}
 use native.Mathlib.Omega.{arith}
-use Rattle.gran.specs.Policy.{Policy}
-use Rattle.store.specs.Held.{Loaded}
-use Rattle.lookup.specs.Lookup.{Graded}
-use Rattle.fields.specs.Fields.{pathIn}
 use Rattle.tables.proofs.Rows.{row-filled}
 use borrow.Author.Needs.{needs}
 use Rattle.tables.proofs.fill_row.Statement.{statement}
 use Rattle.tables.proofs.fill_row.Tie as tie
 
-path-requires : tie.Need-path-requires
-path-requires c κs = search needs
-
-grades-for-requires : tie.Need-grades-for-requires
-grades-for-requires c κs = search needs
+grades-of-requires : tie.Need-grades-of-requires
+grades-of-requires c κs = search needs
 
 mul-force : tie.Need-mul-force
 mul-force c = omega arith
 
-add-fill-force : tie.Need-add-fill-force
-add-fill-force c = omega arith
+slice-aggregate-entries-in : tie.Need-slice-aggregate-entries-in
+slice-aggregate-entries-in c = search needs
 
-sub-fill-force : tie.Need-sub-fill-force
-sub-fill-force c = omega arith
+add-entries-in : tie.Need-add-entries-in
+add-entries-in c = omega arith
 
-part-fill-force-start : tie.Need-part-fill-force-start
-part-fill-force-start c = omega arith
+sub-entries-in : tie.Need-sub-entries-in
+sub-entries-in c = omega arith
 
-part-fill-force-end : tie.Need-part-fill-force-end
-part-fill-force-end c = omega arith
+part-entries-in-start : tie.Need-part-entries-in-start
+part-entries-in-start c = omega arith
 
-fill-force-requires : tie.Need-fill-force-requires
-fill-force-requires c κs = search needs
+part-entries-in-end : tie.Need-part-entries-in-end
+part-entries-in-end c = omega arith
+
+entries-in-requires : tie.Need-entries-in-requires
+entries-in-requires c κs = search needs
 
 mul-objects : tie.Need-mul-objects
 mul-objects c = omega arith
 
 add-objects : tie.Need-add-objects
 add-objects c = omega arith
+
+slice-aggregate-fill-places : tie.Need-slice-aggregate-fill-places
+slice-aggregate-fill-places c = search needs
 
 add-fill-places : tie.Need-add-fill-places
 add-fill-places c = omega arith
@@ -62,32 +60,31 @@ same-length c = search needs
 
 returns : tie.Need-returns
 returns c =
-    let s = c .before .before .before .before .before .before .before .before .before .before .before .before in
+    let s = c .before .before .before .before .before .before .before .before .before .before .before .before .before .before in
     let args = s .args in
-    let g = c .before .before .before .before .before .before .before .before .grades-for .result .of in
-    let graded : (P : Policy) (rest : List ℕ) → Loaded P rest (args .store .now) → Graded P (pathIn (args .store .now) (args .c)) g =
-    λ P rest L. rw (c .before .before .before .before .before .before .before .before .before .path .ensures) at
-    (c .before .before .before .before .before .before .before .before .grades-for .ensures P rest L) in
+    let g = c .before .before .before .before .before .before .before .before .before .before .before .grades-of .result .of in
+    let graded = c .before .before .before .before .before .before .before .before .before .before .before .grades-of .ensures in
     let at = 32 * args .k in
     let behind = 2048 + 64 * args .k in
-    row-filled (args .k) (at + 32 - at) (behind + 64 - behind) (args .part .now) (c .before .before .before .before .before .before .fill-force .last .1 .1 .0)
-    (c .before .before .fill-places .last .1 .1 .0) (s .pre .0) (s .pre .1) (omega arith) (omega arith) (c .before .before .before .before .before .before .fill-force .kept .1 .1 .0)
-    (c .before .before .fill-places .kept .1 .1 .0) (args .c) g graded (c .before .before .before .before .before .before .fill-force .ensures) (c .before .before .fill-places .ensures)
+    row-filled (args .k) (at + 32 - at) (behind + 64 - behind) (args .part .now) (c .before .before .before .before .before .before .before .entries-in .last .1 .1 .0)
+    (c .before .before .fill-places .last .1 .1 .0) (s .pre .0) (s .pre .1) (omega arith) (omega arith) (c .before .before .before .before .before .before .before .entries-in .kept .1 .1 .0)
+    (c .before .before .fill-places .kept .1 .1 .0) (args .c) g graded (c .before .before .before .before .before .before .before .entries-in .ensures) (c .before .before .fill-places .ensures)
 
 pub fill-row-spec : {M : Type 1} → statement M
 fill-row-spec =
     tie.close
     (tie.spec
-    path-requires
-    grades-for-requires
+    grades-of-requires
     mul-force
-    add-fill-force
-    sub-fill-force
-    part-fill-force-start
-    part-fill-force-end
-    fill-force-requires
+    slice-aggregate-entries-in
+    add-entries-in
+    sub-entries-in
+    part-entries-in-start
+    part-entries-in-end
+    entries-in-requires
     mul-objects
     add-objects
+    slice-aggregate-fill-places
     add-fill-places
     sub-fill-places
     part-fill-places-start

@@ -6,34 +6,42 @@ use mathlib.Core.List.{List}
 use Prim.Native.Nat.{ℕ, _-_, _≤_}
 use native.Mathlib.Omega.{arith}
 use borrow.Author.Needs.{needs}
+use borrow.Author.Tests.{ne-eqb}
 use lib.ListN.{length}
 use Rattle.gran.specs.Policy.{Policy}
 use Rattle.gran.specs.Match.{pathsOfS}
 use Rattle.store.specs.Held.{Loaded}
+use Rattle.tables.specs.Regions.{holds}
 use Rattle.tables.proofs.Front.{Written}
 use Rattle.tables.proofs.Subjects.{fromPath, subjects-begin, subject-taken, subject-passed, subjects-end}
 use Rattle.tables.proofs.fill_subjects.Statement.{statement}
 use Rattle.tables.proofs.fill_subjects.Tie as tie
 
 abbrev Inv-loop : tie.InvT-loop
-Inv-loop store part₀ count at₀ c₀ part at c =
+Inv-loop store part₀ marks count at₀ c₀ part at c =
     (c ≤ count) × (at ≤ c) × (length part ≡ length part₀)
     × ((P : Policy) (rest : List ℕ) → Loaded P rest store → length (pathsOfS P) ≤ length part → Written (pathsOfS P) at part (fromPath P c))
 
 abbrev μ-loop : tie.MeasureT-loop
-μ-loop store part₀ count at₀ c₀ part at c = count - c
+μ-loop store part₀ marks count at₀ c₀ part at c = count - c
+
+subject-marks-requires : tie.Need-subject-marks-requires Inv-loop μ-loop
+subject-marks-requires c κs = search needs
 
 path-count-requires : tie.Need-path-count-requires Inv-loop μ-loop
 path-count-requires c κs = search needs
 
 loop-holds : tie.Need-loop-holds Inv-loop μ-loop
-loop-holds c = (omega arith, omega arith, omega arith, λ P rest L room. subjects-begin P (c .before .before .before .args .part .now))
+loop-holds c = (omega arith, omega arith, omega arith, λ P rest L room. subjects-begin P (c .before .before .before .before .args .part .now))
 
 put-requires : tie.Need-put-requires Inv-loop μ-loop
 put-requires c κs = search needs
 
-is-subject-requires : tie.Need-is-subject-requires Inv-loop μ-loop
-is-subject-requires c κs = search needs
+cast-if1 : tie.Need-cast-if1 Inv-loop μ-loop
+cast-if1 c = search needs
+
+array-read-if1 : tie.Need-array-read-if1 Inv-loop μ-loop
+array-read-if1 c = search needs
 
 add-at : tie.Need-add-at Inv-loop μ-loop
 add-at c = search needs
@@ -45,11 +53,12 @@ loop-less : tie.Need-loop-less Inv-loop μ-loop
 loop-less c = search needs
 
 loop-again : tie.Need-loop-again Inv-loop μ-loop
+unfolding holds
 loop-again c =
-    let put = c .before .before .before .before .put in
-    let loop = c .before .before .before .before .before .before .before .loop in
-    let count = c .before .before .before .before .before .before .before .before .path-count .ensures in
-    let found = c .before .is-subject .ensures in
+    let put = c .before .before .before .put in
+    let loop = c .before .before .before .before .before .before .loop in
+    let count = c .before .before .before .before .before .before .before .path-count .ensures in
+    let found = c .before .before .before .before .before .before .before .before .subject-marks .ensures in
     ⊎-elim
     (λ w. (
       omega arith,
@@ -57,7 +66,7 @@ loop-again c =
       omega (arith, put .kept .0),
       λ P rest L room.
           let more : length (pathsOfS P) ≤ length (loop .part) = omega (arith, put .kept .0) in
-          rw (w .1, put .ensures) (subject-taken L (loop .c) (omega arith) (loop .inv .3 P rest L more) more (sym (found P rest L) ∙ w .0 .taken)),
+          rw (w .1, put .ensures) (subject-taken L (loop .c) (omega arith) (loop .inv .3 P rest L more) more (sym (found P rest L (loop .c) (omega arith)) ∙ rw (ne-eqb _ _ (w .0 .taken)))),
     ))
     (λ w. (
       omega arith,
@@ -65,7 +74,7 @@ loop-again c =
       omega (arith, put .kept .0),
       λ P rest L room.
           let more : length (pathsOfS P) ≤ length (loop .part) = omega (arith, put .kept .0) in
-          rw (w .1, put .ensures) (subject-passed L (loop .c) (omega arith) (loop .inv .3 P rest L more) (sym (found P rest L) ∙ w .0 .left)),
+          rw (w .1, put .ensures) (subject-passed L (loop .c) (omega arith) (loop .inv .3 P rest L more) (sym (found P rest L (loop .c) (omega arith)) ∙ rw (w .0 .left))),
     ))
     (c .if1 .came)
 
@@ -81,10 +90,12 @@ fill-subjects-spec =
     (tie.spec
     Inv-loop
     μ-loop
+    subject-marks-requires
     path-count-requires
     loop-holds
     put-requires
-    is-subject-requires
+    cast-if1
+    array-read-if1
     add-at
     add-c
     loop-less

@@ -23,6 +23,9 @@ entry-count-requires c κs = search needs
 default-role-requires : tie.Need-default-role-requires
 default-role-requires c κs = search needs
 
+slice-aggregate-fill-grants : tie.Need-slice-aggregate-fill-grants
+slice-aggregate-fill-grants c = search needs
+
 sub-fill-grants : tie.Need-sub-fill-grants
 sub-fill-grants c = omega arith
 
@@ -55,7 +58,7 @@ part-fill-offers-end-2 c = omega arith
 
 fill-offers-requires : tie.Need-fill-offers-requires
 fill-offers-requires c κs =
-    let s = c .before .before .before .before .before .before .before .before .before .before .before .before .before .before in
+    let s = c .before .before .before .before .before .before .before .before .before .before .before .before .before .before .before .before in
     (λ other. absurd (other refl), omega (arith, part-length 0 8 (s .args .lists .now) (omega (arith, s .pre .0))))
 
 sub-put : tie.Need-sub-put
@@ -90,7 +93,7 @@ part-fill-offers-end-4 c = omega arith
 
 fill-offers-requires-2 : tie.Need-fill-offers-requires-2
 fill-offers-requires-2 c κs =
-    let s = c .before .before .before .before .before .before .before .before .before .before .before .before .before .before .before .before .before .before .before .before .before .before .before in
+    let s = c .before .before .before .before .before .before .before .before .before .before .before .before .before .before .before .before .before .before .before .before .before .before .before .before .before in
     (λ other. inr refl, omega (arith, part-length 24 8 (s .args .lists .now) (omega (arith, s .pre .0))))
 
 sub-fill-offers-5 : tie.Need-sub-fill-offers-5
@@ -100,7 +103,7 @@ part-fill-offers-start-5 : tie.Need-part-fill-offers-start-5
 part-fill-offers-start-5 c = omega arith
 
 part-fill-offers-end-5 : tie.Need-part-fill-offers-end-5
-part-fill-offers-end-5 c = omega (arith, c .before .before .before .before .before .before .before .before .before .before .before .before .before .before .before .before .before .before .before .before .before .before .before .before .before .before .pre .0)
+part-fill-offers-end-5 c = omega (arith, c .before .before .before .before .before .before .before .before .before .before .before .before .before .before .before .before .before .before .before .before .before .before .before .before .before .before .before .before .pre .0)
 
 sub-fill-offers-6 : tie.Need-sub-fill-offers-6
 sub-fill-offers-6 c = omega arith
@@ -116,12 +119,12 @@ part-fill-offers-end-6 c =
       c .before .before .before .before .before .before .before .part3 .given,
       c .before .before .before .before .before .before .before .before .before .before .before .part2 .given,
       c .before .before .before .before .before .before .before .before .before .before .before .before .before .before .before .before .part .given,
-      c .before .before .before .before .before .before .before .before .before .before .before .before .before .before .before .before .before .before .before .before .before .before .before .before .before .before .before .pre .1,
+      c .before .before .before .before .before .before .before .before .before .before .before .before .before .before .before .before .before .before .before .before .before .before .before .before .before .before .before .before .before .pre .1,
     )
 
 fill-offers-requires-3 : tie.Need-fill-offers-requires-3
 fill-offers-requires-3 c κs =
-    let s = c .before .before .before .before .before .before .before .before .before .before .before .before .before .before .before .before .before .before .before .before .before .before .before .before .before .before .before .before in
+    let s = c .before .before .before .before .before .before .before .before .before .before .before .before .before .before .before .before .before .before .before .before .before .before .before .before .before .before .before .before .before .before in
     (λ other. inl refl, omega (arith, part-length 8 16 (s .args .lists .now) (omega (arith, s .pre .0))))
 
 same-length : tie.Need-same-length
@@ -129,8 +132,8 @@ same-length c = search needs
 
 returns : tie.Need-returns
 returns c P rest L listed =
-    let s = c .before .before .before .before .before .before .before .before .before .before .before .before .before .before .before .before .before .before .before .before .before .before .before .before .before .before .before .before .before .before .before in
-    let grades-for = c .before .before .before .before .before .before .before .before .before .before .before .before .before .before .before .before .before .before .before .before .before .before .before .before .before .before .grades-for in
+    let s = c .before .before .before .before .before .before .before .before .before .before .before .before .before .before .before .before .before .before .before .before .before .before .before .before .before .before .before .before .before .before .before .before .before in
+    let grades-for = c .before .before .before .before .before .before .before .before .before .before .before .before .before .before .before .before .before .before .before .before .before .before .before .before .before .before .before .before .grades-for in
     let args = s .args in
     let a =
     c .before .before .before .before .before .before .before .before .before .before .before .before .before .before .before .before .before .before .before .before .before .fill-grants in
@@ -145,14 +148,14 @@ returns c P rest L listed =
     let five = parts-more 1024 (f .last .1 .1 .1 .1 .0) four (omega arith) (f .kept .1 .1 .1 .1 .0) in
     let lent = midOf 304 16 (putMid 64 240 (putMid 0 64 (args .part .now) (a .last .1 .1 .1 .0)) (b .last .1 .1 .1 .1 .0)) in
     tests-of L (args .lists .now) (s .pre .0) listed (args .kind)
-    (c .before .before .before .before .before .before .before .before .before .before .before .before .before .before .before .before .before .before .before .before .before .before .before .before .before .role-count .result)
-    (c .before .before .before .before .before .before .before .before .before .before .before .before .before .before .before .before .before .before .before .before .before .before .before .before .entry-count .result)
-    (c .before .before .before .before .before .before .before .before .before .before .before .before .before .before .before .before .before .before .before .before .before .before .before .default-role .result)
+    (c .before .before .before .before .before .before .before .before .before .before .before .before .before .before .before .before .before .before .before .before .before .before .before .before .before .before .role-count .result)
+    (c .before .before .before .before .before .before .before .before .before .before .before .before .before .before .before .before .before .before .before .before .before .before .before .before .before .entry-count .result)
+    (c .before .before .before .before .before .before .before .before .before .before .before .before .before .before .before .before .before .before .before .before .before .before .before .before .default-role .result)
     (args .target .now) (grades-for .result .of) _ _ lent _ _ _ _ five
-    (c .before .before .before .before .before .before .before .before .before .before .before .before .before .before .before .before .before .before .before .before .before .before .before .before .before .role-count .ensures)
-    (c .before .before .before .before .before .before .before .before .before .before .before .before .before .before .before .before .before .before .before .before .before .before .before .before .entry-count .ensures)
+    (c .before .before .before .before .before .before .before .before .before .before .before .before .before .before .before .before .before .before .before .before .before .before .before .before .before .before .role-count .ensures)
+    (c .before .before .before .before .before .before .before .before .before .before .before .before .before .before .before .before .before .before .before .before .before .before .before .before .before .entry-count .ensures)
     (grades-for .ensures P rest L)
-    (c .before .before .before .before .before .before .before .before .before .before .before .before .before .before .before .before .before .before .before .before .before .before .before .default-role .ensures P rest L)
+    (c .before .before .before .before .before .before .before .before .before .before .before .before .before .before .before .before .before .before .before .before .before .before .before .before .default-role .ensures P rest L)
     (d .ensures) (a .ensures) (b .ensures) (e .ensures) (f .ensures)
 
 pub fill-tests-spec : {M : Type 1} → statement M
@@ -163,6 +166,7 @@ fill-tests-spec =
     role-count-requires
     entry-count-requires
     default-role-requires
+    slice-aggregate-fill-grants
     sub-fill-grants
     part-fill-grants-start
     part-fill-grants-end

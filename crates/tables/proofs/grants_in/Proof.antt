@@ -17,7 +17,7 @@ grants-requires c κs = search needs
 
 returns : tie.Need-returns
 returns c P rest f L graded h =
-    c .grants .ensures ∙ rw (c .before .object-modes .ensures) (granted L (c .before .before .before .before .args .kind) (c .before .before .before .before .args .e) (c .before .before .object-in .result) h (c .before .before .object-in .ensures P rest f L graded h))
+    c .grants .ensures ∙ rw (c .before .object-modes .ensures) (granted L (c .before .before .before .before .before .args .kind) (c .before .before .before .before .before .args .e) (c .before .before .object-in .result) h (c .before .before .object-in .ensures P rest f L graded h))
 
 pub grants-in-spec : {M : Type 1} → statement M
 grants-in-spec =
