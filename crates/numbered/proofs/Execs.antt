@@ -1,15 +1,14 @@
 -- The steps 84 by the tables are the model's: by object, user, group and subject.
 -- Assumes nothing.
 use mathlib.Core.Path.{_≡_}
-use mathlib.Core.Bool.{So}
 use mathlib.Core.List.{List, map}
 use Prim.Native.Nat.{ℕ, _<_}
 use native.Mathlib.Omega.{arith}
 use lib.Dec.{eqb}
 use lib.ListN.{length, getD}
-use Rattle.gran.specs.Lists.{none, member, numbers}
+use Rattle.gran.specs.Lists.{none}
 use Rattle.gran.specs.Policy.{Policy, USER, GROUP}
-use Rattle.gran.specs.Match.{pathAt, isSubject, subjects, pathsOfS, subjectOf, objectsOf, objectIn}
+use Rattle.gran.specs.Match.{pathAt, pathsOfS, subjectOf, objectsOf, objectIn}
 use Rattle.gran.specs.Good.{Good}
 use Rattle.gran.specs.Abstract.{setUser, setGroup, exec, next, entry, image}
 use Rattle.gran.specs.Reach.{Question}
@@ -19,7 +18,7 @@ use Rattle.lookup.specs.Lookup.{entryAt}
 use Rattle.lookup.proofs.Matches.{good-entry}
 use Rattle.tables.specs.Tables.{Tabled, cell, standCell, objectCell}
 use Rattle.runs.specs.Steps.{choices, isOther, executable, executables, usersAfter, groupsAfter, subjectsAfter, execsTo, execsAs, execsOf, execs}
-use Rattle.gran.proofs.Members.{at-mem, only-of}
+use Rattle.gran.proofs.Policies.{path-subject}
 use Rattle.numbered.specs.Number.{Inside, sizesOf, placesOf, stateNumber}
 use Rattle.numbered.specs.Candidates.{inImage, subjectStep, bySubject, otherGroup, byGroup, otherUser, byUser, objectStep, objectSteps, labelOf, stepOf}
 use Rattle.numbered.proofs.Places.{place-at, same-place, same-at, place-getD}
@@ -28,11 +27,6 @@ use Rattle.numbered.proofs.Numbers.{user-at, group-at}
 use Rattle.numbered.proofs.Loops.{loop-is, row-is, offered-is, after-is}
 use Rattle.numbered.proofs.Objects.{objects-length, object-named, count-is, path-is, modes-is}
 use Rattle.numbered.proofs.Sets.{user-digit, group-digit, subject-digit}
-
--- A path of S, by its place, is a subject.
-path-subject : (P : Policy) (k : ℕ) → k < length (pathsOfS P) → So (member (getD (pathsOfS P) k none) (subjects P))
-unfolding pathsOfS
-path-subject P k h = only-of (isSubject P) (numbers 0 (length (P .paths))) (at-mem none (pathsOfS P) k h) .1
 
 module _ (P : Policy) (good : Good P) (q : Question) (t : List ℕ) (tabled : Tabled P q t) (e : ℕ) (known : e < length (P .entries)) where
   -- ---- the image

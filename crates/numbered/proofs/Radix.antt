@@ -9,7 +9,7 @@ use Rattle.numbered.specs.Number.{allStates, Sized, Among, Celled, numbe
 use Rattle.numbered.specs.declared.Sizes.{Sizes}
 use Rattle.numbered.specs.declared.Digits.{Digits}
 
-grows : (a k : ℕ) → 0 < k → a ≤ a * k
+pub grows : (a k : ℕ) → 0 < k → a ≤ a * k
 grows a k h = omega (arith, mul-le-mul-left a h, mul-one a)
 
 -- Every number on the way to that of the digits is small.

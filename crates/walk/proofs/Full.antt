@@ -2,7 +2,7 @@
 -- Assumes nothing.
 use mathlib.Core.Path.{_≡_, refl, ap, _∙_}
 use mathlib.Core.Bool.{Bool, true, false}
-use mathlib.Core.List.{List, [], _∷_}
+use mathlib.Core.List.{List}
 use Prim.Native.Nat.{ℕ, zero, suc, _+_, _≤_, _<_}
 use native.Mathlib.Omega.{arith}
 use native.Mathlib.Decide.{decLt}
@@ -10,23 +10,16 @@ use lib.ListN.{getD}
 use Rattle.numbered.specs.Number.{allStates}
 use Rattle.numbered.specs.Candidates.{Step}
 use Rattle.numbered.specs.declared.Sizes.{Sizes}
-use Rattle.walk.specs.Walk.{Walk, visit, visits, sweep}
-use Rattle.walk.specs.Needed.{Kept}
-use Rattle.walk.proofs.Walks.{visit-met, visit-old, sweep-met, sweep-more, sweep-done}
-use Rattle.walk.proofs.Keeping.{Inside, kept-full}
+use Rattle.walk.specs.Walk.{Walk, visits, sweep}
+use Rattle.walk.specs.Needed.{Kept, Marked}
+use Rattle.walk.proofs.Walks.{sweep-met, sweep-more, sweep-done}
+use Rattle.walk.proofs.Each.{each-map}
+use Rattle.walk.proofs.Keeping.{IsState, Inside, kept-full}
+use Rattle.walk.proofs.Marks.{visits-marked}
 
 module _ (z : Sizes) (few : allStates z ≤ 8192) (goal : ℕ → Bool) (w : Walk) (kept : Kept z w) (all : w .count ≡ allStates z) where
-  visit-full : (p c n : ℕ) → n < allStates z → visit goal p c n w ≡ w
-  visit-full p c n state = go (w .met) refl
-    where
-      go : (b : Bool) → w .met ≡ b → visit goal p c n w ≡ w
-      go true e = visit-met goal p c n w e
-      go false e = visit-old goal p c n w e (kept-full z few kept all n state)
-
   visits-full : (p : ℕ) (xs : List Step) → Inside z xs → visits goal p xs w ≡ w
-  unfolding visits
-  visits-full p [] inside = refl
-  visits-full p (x ∷ xs) inside = ap (visits goal p xs) (visit-full p (x .label) (x .target) (inside .0)) ∙ visits-full p xs (inside .1)
+  visits-full p xs inside = visits-marked goal w p xs (each-map (IsState z) (Marked (w .area)) (kept-full z few kept all) xs inside)
 
   pub sweep-full : (steps : ℕ → List Step) → ((n : ℕ) → n < allStates z → Inside z (steps n)) → (fuel p : ℕ) → sweep goal steps fuel p w ≡ w
   unfolding sweep

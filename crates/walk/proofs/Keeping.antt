@@ -16,6 +16,7 @@ use Rattle.numbered.specs.declared.Sizes.{Sizes}
 use Rattle.walk.specs.Walk.{Walk, mark, Cleared, empty, enter, visit, visits}
 use Rattle.numbered.specs.Number.{allStates}
 use Rattle.walk.specs.Needed.{unmarked, Kept}
+use Rattle.walk.proofs.Each.{Each}
 use Rattle.walk.proofs.Walks.{visit-met, visit-new, visit-old}
 use Rattle.walk.proofs.Entering.{entered-length, queue-stays, queue-new, mark-stays, mark-new}
 
@@ -124,9 +125,11 @@ module _ (z : Sizes) where
         go false e (no ne) = rw (visit-old goal p c n w e ne) kept
 
 -- Every step leads to a state.
+abbrev pub IsState : Sizes → ℕ → Type 0
+IsState z n = n < allStates z
+
 abbrev pub Inside : Sizes → List Step → Type 0
-Inside z [] = Unit {0}
-Inside z (x ∷ xs) = (x .target < allStates z) × Inside z xs
+Inside z xs = Each (IsState z) xs
 
 pub kept-visits : (z : Sizes) (few : allStates z ≤ 8192) (goal : ℕ → Bool) (p : ℕ) (xs : List Step) → Inside z xs → {w : Walk} → Kept z w → Kept z (visits goal p xs w)
 unfolding visits

@@ -1,9 +1,13 @@
 pub mod Walks
 pub mod Entering
+pub mod Each
 pub mod Keeping
+pub mod Marks
 pub mod Full
 pub mod Loops
 pub mod Targets
+pub mod Rows
+pub mod Again
 pub mod Rests
 pub mod Images
 pub mod Tests

@@ -17,7 +17,7 @@ use Rattle.numbered.specs.declared.Sizes.{Sizes}
 use Rattle.walk.specs.Walk.{Walk, mark, Cleared, empty, visit, visits, search}
 use Rattle.walk.specs.Needed.{Kept, Apart, Rest}
 use Rattle.walk.proofs.Walks.{visit-met, visit-new, visit-old}
-use Rattle.walk.proofs.Entering.{entered}
+use Rattle.walk.proofs.Entering.{entered-other}
 use Rattle.walk.proofs.Keeping.{Inside, kept-empty, kept-below, kept-visit, kept-visits, zeros-cleared}
 use Rattle.walk.proofs.Targets.{inside-candidates, sweep-keeps, search-kept}
 
@@ -46,18 +46,14 @@ rest-none {all} {area} r = ext-getD 0 area (zeros 24576) (r .long ∙ sym (lengt
 -- ---- what a search does not set
 
 module _ {z : Sizes} (sized : Sized z) (goal : ℕ → Bool) (i : ℕ) (apart : Apart 0 (allStates z) i) where
-  entered-apart : (area : List ℕ) (count p c n : ℕ) → count < allStates z → n < allStates z → getD (entered area count p c n) i 0 ≡ getD area i 0
-  entered-apart area count p c n room state =
-      getD-set-other (set (set area count n) (8192 + n) (p + 1)) (16384 + n) i c 0 (apart n (omega arith) state .1 .1)
-      ∙ getD-set-other (set area count n) (8192 + n) i (p + 1) 0 (apart n (omega arith) state .1 .0)
-      ∙ getD-set-other area count i n 0 (apart count (omega arith) room .0)
-
   visit-apart : (p c n : ℕ) → n < allStates z → {w : Walk} → Kept z w → getD (visit goal p c n w .area) i 0 ≡ getD (w .area) i 0
   visit-apart p c n state {w} kept = go (w .met) refl (ℕ-discrete (mark (w .area) n) 0)
     where
       go : (b : Bool) → w .met ≡ b → Dec (mark (w .area) n ≡ 0) → getD (visit goal p c n w .area) i 0 ≡ getD (w .area) i 0
       go true e d = rw (visit-met goal p c n w e)
-      go false e (yes m) = rw (visit-new goal p c n w e m) (entered-apart (w .area) (w .count) p c n (kept-below z (sized .few) kept n state m) state)
+      go false e (yes m) = rw (visit-new goal p c n w e m) (
+          let none = apart n (omega arith) state .1 in
+          entered-other (w .area) (w .count) p c n i (apart (w .count) (omega arith) (kept-below z (sized .few) kept n state m) .0) (none .0) (none .1))
       go false e (no ne) = rw (visit-old goal p c n w e ne)
 
   visits-apart : (p : ℕ) (xs : List Step) → Inside z xs → {w : Walk} → Kept z w → getD (visits goal p xs w .area) i 0 ≡ getD (w .area) i 0

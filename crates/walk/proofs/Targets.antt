@@ -2,9 +2,8 @@
 -- Assumes nothing.
 use mathlib.Core.Path.{_≡_, refl}
 use mathlib.Core.Bool.{Bool, true, false, not, cond, _&&_}
-use mathlib.Core.List.{List, [], _∷_, _++_}
+use mathlib.Core.List.{List}
 use Prim.Native.Nat.{ℕ, zero, suc, _+_, _<_}
-use native.Mathlib.Omega.{arith}
 use borrow.Author.Tests.{ltb-true}
 use lib.Dec.{eqb, ltb}
 use lib.ListN.{getD}
@@ -13,34 +12,14 @@ use Rattle.gran.specs.Access.{has, sees}
 use Rattle.fields.specs.Fields.{entryCaps, objectCount, objectPathAt, objectModesAt}
 use Rattle.tables.specs.Tables.{isSet, takeCell, groupReachCell, userReachCell}
 use Rattle.numbered.specs.Number.{allStates, Sized, Among, digitsOf}
-use Rattle.numbered.specs.Candidates.{Step, offered, flat, roleAt, entryNumber, withSpecial, withUser, withGroup, withSubject, specialStep, userStep, groupStep, specialSteps, userSteps, groupSteps, inImage, subjectStep, bySubject, otherGroup, byGroup, otherUser, byUser, objectStep, objectSteps, stepsWith, candidates}
+use Rattle.numbered.specs.Candidates.{Step, roleAt, entryNumber, withSpecial, withUser, withGroup, withSubject, specialStep, userStep, groupStep, specialSteps, userSteps, groupSteps, inImage, subjectStep, bySubject, otherGroup, byGroup, otherUser, byUser, objectStep, objectSteps, stepsWith, candidates}
 use Rattle.numbered.specs.declared.Sizes.{Sizes}
 use Rattle.numbered.specs.declared.Digits.{Digits}
 use Rattle.numbered.proofs.Radix.{numberOf-lt, digits-among}
 use Rattle.walk.specs.Walk.{Walk, Cleared, visits, sweep, search}
 use Rattle.walk.specs.Needed.{Kept}
-use Rattle.walk.proofs.Keeping.{Inside, kept-empty, kept-visit, kept-visits}
-
-module _ (z : Sizes) where
-  inside-append : (xs ys : List Step) → Inside z xs → Inside z ys → Inside z (xs ++ ys)
-  inside-append [] ys a b = b
-  inside-append (x ∷ xs) ys a b = (a .0, inside-append xs ys (a .1) b)
-
-  inside-flat : (f : ℕ → List Step) (k n : ℕ) → ((j : ℕ) → j < k + n → Inside z (f j)) → Inside z (flat f k n)
-  unfolding flat
-  inside-flat f k zero h = tt
-  inside-flat f k (suc n) h = inside-append (f k) (flat f (k + 1) n) (h k (omega arith)) (inside-flat f (k + 1) n (λ j lt. h j (omega arith)))
-
-  inside-range : (f : ℕ → List Step) (n : ℕ) → ((j : ℕ) → j < n → Inside z (f j)) → Inside z (flat f 0 n)
-  inside-range f n h = inside-flat f 0 n (λ j lt. h j (omega arith))
-
-  inside-offered : (b : Bool) (c n : ℕ) → n < allStates z → Inside z (offered b c n)
-  inside-offered true c n h = (h, tt)
-  inside-offered false c n h = tt
-
-  inside-cond : (b : Bool) (xs : List Step) → Inside z xs → Inside z (cond b xs [])
-  inside-cond true xs h = h
-  inside-cond false xs h = tt
+use Rattle.walk.proofs.Each.{each-append, each-range, each-offered, each-cond}
+use Rattle.walk.proofs.Keeping.{IsState, Inside, kept-empty, kept-visit, kept-visits}
 
 module _ {z : Sizes} {d : Digits} (among : Among z d) where
   -- Another digit, below its size.
@@ -57,65 +36,65 @@ module _ {z : Sizes} {d : Digits} (among : Among z d) where
   among-subject h = record { special = among .special; user = among .user; group = among .group; subject = h }
 
 module _ (t : List ℕ) {z : Sizes} where
-  pub inside-special : {d : Digits} → Among z d → (r j : ℕ) → j < z .specials → Inside z (specialStep t z d r j)
+  inside-special : {d : Digits} → Among z d → (r j : ℕ) → j < z .specials → Inside z (specialStep t z d r j)
   unfolding specialStep
-  inside-special among r j h = inside-offered z (isSet t (takeCell r j)) 96 _ (numberOf-lt (among-special among h))
+  inside-special among r j h = each-offered (IsState z) (isSet t (takeCell r j)) 96 _ (λ so. numberOf-lt (among-special among h))
 
-  pub inside-user : {d : Digits} → Among z d → (e j : ℕ) → j < z .users → Inside z (userStep t z d e j)
+  inside-user : {d : Digits} → Among z d → (e j : ℕ) → j < z .users → Inside z (userStep t z d e j)
   unfolding userStep
-  inside-user among e j h = inside-offered z (isSet t (userReachCell e j)) 97 _ (numberOf-lt (among-user among h))
+  inside-user among e j h = each-offered (IsState z) (isSet t (userReachCell e j)) 97 _ (λ so. numberOf-lt (among-user among h))
 
-  pub inside-group : {d : Digits} → Among z d → (e j : ℕ) → j < z .groups → Inside z (groupStep t z d e j)
+  inside-group : {d : Digits} → Among z d → (e j : ℕ) → j < z .groups → Inside z (groupStep t z d e j)
   unfolding groupStep
-  inside-group among e j h = inside-offered z (isSet t (groupReachCell e j)) 98 _ (numberOf-lt (among-group among h))
+  inside-group among e j h = each-offered (IsState z) (isSet t (groupReachCell e j)) 98 _ (λ so. numberOf-lt (among-group among h))
 
   module _ (e i c : ℕ) where
     pub inside-subjects : {d : Digits} → Among z d → Inside z (bySubject t z d e i c)
     unfolding bySubject subjectStep
-    inside-subjects {d} among = inside-range z (subjectStep t z d e i c) (z .subjects) (λ k h. inside-offered z (inImage t e i c k) i _ (numberOf-lt (among-subject among h)))
+    inside-subjects {d} among = each-range (IsState z) (subjectStep t z d e i c) (z .subjects) (λ k h. each-offered (IsState z) (inImage t e i c k) i _ (λ so. numberOf-lt (among-subject among h)))
 
-    pub inside-other-group : {d : Digits} → Among z d → (j : ℕ) → j < z .groups → Inside z (otherGroup t z d e i c j)
+    inside-other-group : {d : Digits} → Among z d → (j : ℕ) → j < z .groups → Inside z (otherGroup t z d e i c j)
     unfolding otherGroup
-    inside-other-group {d} among j h = inside-cond z (not (eqb j (d .group)) && isSet t (groupReachCell e j)) _ (inside-subjects (among-group among h))
+    inside-other-group {d} among j h = each-cond (IsState z) (not (eqb j (d .group)) && isSet t (groupReachCell e j)) _ (λ so. inside-subjects (among-group among h))
 
     pub inside-groups : {d : Digits} → Among z d → Inside z (byGroup t z d e i c)
     unfolding byGroup
-    inside-groups {d} among = inside-append z (bySubject t z d e i c) _ (inside-subjects among) (inside-range z (otherGroup t z d e i c) (z .groups) (inside-other-group among))
+    inside-groups {d} among = each-append (IsState z) (bySubject t z d e i c) _ (inside-subjects among) (each-range (IsState z) (otherGroup t z d e i c) (z .groups) (inside-other-group among))
 
-    pub inside-other-user : {d : Digits} → Among z d → (j : ℕ) → j < z .users → Inside z (otherUser t z d e i c j)
+    inside-other-user : {d : Digits} → Among z d → (j : ℕ) → j < z .users → Inside z (otherUser t z d e i c j)
     unfolding otherUser
-    inside-other-user {d} among j h = inside-cond z (not (eqb j (d .user)) && isSet t (userReachCell e j)) _ (inside-groups (among-user among h))
+    inside-other-user {d} among j h = each-cond (IsState z) (not (eqb j (d .user)) && isSet t (userReachCell e j)) _ (λ so. inside-groups (among-user among h))
 
     pub inside-users : {d : Digits} → Among z d → Inside z (byUser t z d e i c)
     unfolding byUser
-    inside-users {d} among = inside-append z (byGroup t z d e i c) _ (inside-groups among) (inside-range z (otherUser t z d e i c) (z .users) (inside-other-user among))
+    inside-users {d} among = each-append (IsState z) (byGroup t z d e i c) _ (inside-groups among) (each-range (IsState z) (otherUser t z d e i c) (z .users) (inside-other-user among))
 
 module _ (s t : List ℕ) {z : Sizes} {d : Digits} (among : Among z d) where
   pub inside-object : (e i : ℕ) → Inside z (objectStep s t z d e i)
   unfolding objectStep
-  inside-object e i = inside-cond z (sees (objectModesAt s e i) EXEC) _ (inside-users t e i (objectPathAt s e i) among)
+  inside-object e i = each-cond (IsState z) (sees (objectModesAt s e i) EXEC) _ (λ so. inside-users t e i (objectPathAt s e i) among)
 
   -- All of a state.
   pub inside-specials : (r : ℕ) → Inside z (specialSteps t z d r)
   unfolding specialSteps
-  inside-specials r = inside-range z (specialStep t z d r) (z .specials) (inside-special t among r)
+  inside-specials r = each-range (IsState z) (specialStep t z d r) (z .specials) (inside-special t among r)
 
   pub inside-users-set : (e : ℕ) → Inside z (userSteps s t z d e)
   unfolding userSteps
-  inside-users-set e = inside-cond z (has (entryCaps s e) SET-UID) _ (inside-range z (userStep t z d e) (z .users) (inside-user t among e))
+  inside-users-set e = each-cond (IsState z) (has (entryCaps s e) SET-UID) _ (λ so. each-range (IsState z) (userStep t z d e) (z .users) (inside-user t among e))
 
   pub inside-groups-set : (e : ℕ) → Inside z (groupSteps s t z d e)
   unfolding groupSteps
-  inside-groups-set e = inside-cond z (has (entryCaps s e) SET-GID) _ (inside-range z (groupStep t z d e) (z .groups) (inside-group t among e))
+  inside-groups-set e = each-cond (IsState z) (has (entryCaps s e) SET-GID) _ (λ so. each-range (IsState z) (groupStep t z d e) (z .groups) (inside-group t among e))
 
   pub inside-objects : (e : ℕ) → Inside z (objectSteps s t z d e)
   unfolding objectSteps
-  inside-objects e = inside-range z (objectStep s t z d e) (objectCount s e) (λ i h. inside-object e i)
+  inside-objects e = each-range (IsState z) (objectStep s t z d e) (objectCount s e) (λ i h. inside-object e i)
 
   inside-with : (r e : ℕ) → Inside z (stepsWith s t z d r e)
   unfolding stepsWith
-  inside-with r e = inside-append z (specialSteps t z d r) _ (inside-specials r)
-      (inside-append z (userSteps s t z d e) _ (inside-users-set e) (inside-append z (groupSteps s t z d e) _ (inside-groups-set e) (inside-objects e)))
+  inside-with r e = each-append (IsState z) (specialSteps t z d r) _ (inside-specials r)
+      (each-append (IsState z) (userSteps s t z d e) _ (inside-users-set e) (each-append (IsState z) (groupSteps s t z d e) _ (inside-groups-set e) (inside-objects e)))
 
 pub inside-candidates : (s t : List ℕ) {z : Sizes} → Sized z → (n : ℕ) → n < allStates z → Inside z (candidates s t z n)
 unfolding candidates

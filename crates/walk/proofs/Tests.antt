@@ -1,17 +1,15 @@
 -- Which steps there are, by what a test of the code found.
 -- Assumes nothing.
 use mathlib.Core.Path.{_≡_, refl, sym, ap, _∙_}
-use mathlib.Core.Bool.{Bool, true, false, not, cond, _&&_}
+use mathlib.Core.Bool.{Bool, true, false}
 use mathlib.Core.List.{List, []}
 use Prim.Native.Nat.{ℕ}
-use lib.Dec.{eqb}
-use borrow.Author.Tests.{eq-eqb, ne-eqb}
 use Rattle.gran.specs.Policy.{EXEC, SET-UID, SET-GID}
 use Rattle.gran.specs.Access.{has, sees}
 use Rattle.fields.specs.Fields.{entryCaps, objectPathAt, objectModesAt}
 use Rattle.tables.specs.Tables.{cell, forceCell}
 use Rattle.numbered.specs.Number.{digitsOf}
-use Rattle.numbered.specs.Candidates.{Step, flat, roleAt, entryNumber, userStep, groupStep, userSteps, groupSteps, byUser, objectStep, stepsWith, candidates}
+use Rattle.numbered.specs.Candidates.{flat, roleAt, entryNumber, userStep, groupStep, userSteps, groupSteps, byUser, objectStep, stepsWith, candidates}
 use Rattle.numbered.specs.declared.Sizes.{Sizes}
 use Rattle.numbered.specs.declared.Digits.{Digits}
 
@@ -43,17 +41,6 @@ module _ (s t : List ℕ) (z : Sizes) (d : Digits) (e : ℕ) where
   pub object-some : (i : ℕ) → sees (objectModesAt s e i) EXEC ≡ true → byUser t z d e i (objectPathAt s e i) ≡ objectStep s t z d e i
   unfolding objectStep
   object-some i h = rw h
-
--- Another choice than the kept one, if it is allowed.
-module _ (j kept : ℕ) (allowed : Bool) (xs : List Step) where
-  pub other-kept : j ≡ kept → cond (not (eqb j kept) && allowed) xs [] ≡ []
-  other-kept e = rw (eq-eqb j kept e)
-
-  pub other-none : (j ≡ kept → ⊥) → allowed ≡ false → cond (not (eqb j kept) && allowed) xs [] ≡ []
-  other-none ne h = rw (ne-eqb j kept ne, h)
-
-  pub other-some : (j ≡ kept → ⊥) → allowed ≡ true → xs ≡ cond (not (eqb j kept) && allowed) xs []
-  other-some ne h = rw (ne-eqb j kept ne, h)
 
 -- The digits, the role and the entry, each computed once.
 pub steps-are : (s t : List ℕ) (z : Sizes) (n : ℕ) (d : Digits) (r e : ℕ) → d ≡ digitsOf z n → r ≡ roleAt t d → e ≡ cell t (forceCell (d .subject) r) → stepsWith s t z d r e ≡ candidates s t z n

@@ -91,3 +91,6 @@ written-front {xs} {was} {is} {n} w = rw (w .kept) (take-at xs (drop n was) n (s
 
 pub written-fits : {xs was is : List ℕ} {n : ℕ} → Written xs was is n → n ≤ length is
 written-fits {xs} {was} {is} {n} w = rw (w .kept, length-append xs (drop n was)) (omega (arith, w .size))
+
+pub written-size : {xs was is : List ℕ} {n : ℕ} → Written xs was is n → n ≡ length (take n is)
+written-size w = w .size ∙ sym (ap length (written-front w))

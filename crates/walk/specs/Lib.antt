@@ -1,4 +1,5 @@
 pub mod Walk
 pub mod Needed
+pub mod Row
 pub mod Image
 pub mod Found

@@ -1,13 +1,19 @@
 -- What the loops of a search require of the memory and the sizes.
 -- Assumes nothing.
 use mathlib.Core.Path.{_≡_}
-use mathlib.Core.Bool.{cond}
+use mathlib.Core.Bool.{So, false, cond}
 use mathlib.Core.List.{List}
-use Prim.Native.Nat.{ℕ, zero, suc, _+_, _≤_, _<_}
+use Prim.Native.Nat.{ℕ, zero, suc, _+_, _*_, _≤_, _<_}
 use lib.Dec.{eqb}
 use lib.ListN.{length, getD}
-use Rattle.numbered.specs.Number.{allStates, Sized}
+use Rattle.gran.specs.Policy.{EXEC}
+use Rattle.gran.specs.Access.{sees}
+use Rattle.fields.specs.Fields.{objectCount, objectPathAt, objectModesAt}
+use Rattle.tables.specs.Tables.{isSet, groupReachCell, userReachCell}
+use Rattle.numbered.specs.Number.{allStates, Sized, Among, numberOf}
+use Rattle.numbered.specs.Candidates.{inImage}
 use Rattle.numbered.specs.declared.Sizes.{Sizes}
+use Rattle.numbered.specs.declared.Digits.{Digits}
 use Rattle.walk.specs.declared.Progress.{Progress}
 use Rattle.walk.specs.Walk.{Walk, mark}
 
@@ -48,3 +54,26 @@ pub record Rooted (area : List ℕ) (k : ℕ) : Type 0 where
   pub within : k < 8192
   pub small : (j : ℕ) → j ≤ k → getD area j 0 < 8192
   pub earlier : (j : ℕ) → 0 < j → j ≤ k → (0 < mark area (getD area j 0)) × (mark area (getD area j 0) ≤ j)
+
+-- ---- execs that were gone through
+
+-- A number with a mark.
+abbrev pub Marked : List ℕ → ℕ → Type 0
+Marked area n = mark area n ≡ 0 → ⊥
+
+-- The object at place i of entry e leads to the digits d, with a user and a group that the entry allows.
+pub record Leads (s t : List ℕ) (z : Sizes) (e i : ℕ) (d : Digits) : Type 0 where
+  pub among : Among z d
+  pub object : i < objectCount s e
+  pub modes : So (sees (objectModesAt s e i) EXEC)
+  pub user : So (isSet t (userReachCell e (d .user)))
+  pub group : So (isSet t (groupReachCell e (d .group)))
+  pub subject : So (inImage t e i (objectPathAt s e i) (d .subject))
+
+-- The flag of a special role and an entry.
+abbrev pub flagAt : ℕ → ℕ → ℕ
+flagAt special e = 256 * special + e
+
+-- Where the flag of a special role and an entry is set, every state that the entry's objects lead to under that role was found.
+pub record Opened (s t : List ℕ) (z : Sizes) (flags : List ℕ) (w : Walk) : Type 0 where
+  pub found : (e i : ℕ) (d : Digits) → e < 256 → getD flags (flagAt (d .special) e) 0 ≡ 1 → Leads s t z e i d → w .met ≡ false → Marked (w .area) (numberOf z d)

@@ -7,7 +7,7 @@ mod state;
 mod steps;
 
 use area::visit;
-use execs::exec_objects;
+use execs::exec_once;
 use numbered::Digits;
 use numbered::Sizes;
 use state::all_states;
@@ -17,19 +17,22 @@ use steps::set_groups;
 use steps::set_users;
 use steps::specials;
 ghost use mathlib.Core.Path.{_≡_};
-ghost use Prim.Native.Nat.{_≤_, _<_};
-ghost use lib.ListN.{length};
+ghost use Prim.Native.Nat.{ℕ, _≤_, _<_};
+ghost use lib.ListN.{length, getD};
 ghost use Rattle.lines.specs.Line.{zeros};
 ghost use Rattle.numbered.specs.Number.{allStates, Sized};
 ghost use Rattle.numbered.specs.Candidates.{goalAt, candidates};
 ghost use Rattle.walk.specs.Walk as spec;
 ghost use Rattle.walk.specs.Walk.{Cleared, trail, Written};
-ghost use Rattle.walk.specs.Needed.{walkOf, Going, Rest, Rooted};
+ghost use Rattle.walk.specs.Needed.{walkOf, Going, Opened, Rest, Rooted};
 
 // Where marks and labels begin in the work area.
 const MARKS: usize = 8192;
 
 pub const LABELS: usize = 16384;
+
+// A flag for each special role and each byte that the tables may give as the entry in force.
+pub const FLAGS: usize = 2048;
 
 // How many states were found, and 1 where the last of them has the access, which ends the search. Whole words both: with a bool beside the
 // count, the compiled loops would carry it through memory, in pieces.
@@ -53,10 +56,11 @@ fn expand(
     z: Sizes,
     p: usize,
     n: usize,
+    opened: &mut [u8; FLAGS],
     w: Progress,
 ) -> Progress
-    requires { ⌜ Going z p (walkOf (now area) w) × (n < allStates z) ⌝ }
-    ensures { λ r. ⌜ walkOf (now (area .exit)) r ≡ spec.visits (goalAt (now (t .entry)) z) p (candidates (now (store .entry)) (now (t .entry)) z n) (walkOf (now (area .entry)) w) ⌝ }
+    requires { ⌜ Going z p (walkOf (now area) w) × ((n < allStates z) × Opened (now store) (now t) z (now opened) (walkOf (now area) w)) ⌝ }
+    ensures { λ r. ⌜ (walkOf (now (area .exit)) r ≡ spec.visits (goalAt (now (t .entry)) z) p (candidates (now (store .entry)) (now (t .entry)) z n) (walkOf (now (area .entry)) w)) × Opened (now (store .entry)) (now (t .entry)) z (now (opened .exit)) (walkOf (now (area .exit)) r) ⌝ }
 {
     let d = Digits::of(n, z);
     let role = role_at(t, d);
@@ -64,7 +68,14 @@ fn expand(
     let w1 = specials(area, t, z, p, d, role, w);
     let w2 = set_users(area, store, t, z, p, d, entry, w1);
     let w3 = set_groups(area, store, t, z, p, d, entry, w2);
-    exec_objects(area, store, t, z, p, d, entry, w3)
+    exec_once(area, store, t, z, p, d, entry, opened, w3)
+}
+
+// No special role and entry opened yet.
+fn none_opened() -> [u8; FLAGS]
+    ensures { λ r. ⌜ ((i : ℕ) → getD r i 0 ≡ 0) ⌝ }
+{
+    [0; FLAGS]
 }
 
 // The search from state `start`, in a cleared work area, until the access is met or every state that can be reached is found. Once all
@@ -75,6 +86,7 @@ pub fn search(area: &mut [u16], store: &[u8], t: &[u8], z: Sizes, start: usize) 
 {
     let none = Progress { count: 0, met: 0 };
     let all = all_states(z);
+    let mut opened = none_opened();
     let mut w = visit(area, t, z, 0, 0, start, none);
     let mut p = 0;
     while p < w.count {
@@ -86,7 +98,7 @@ pub fn search(area: &mut [u16], store: &[u8], t: &[u8], z: Sizes, start: usize) 
             return w;
         }
         let n = area[p] as usize;
-        w = expand(area, store, t, z, p, n, w);
+        w = expand(area, store, t, z, p, n, &mut opened, w);
         p += 1;
     }
     w

@@ -1,4 +1,5 @@
--- `walk::search` meets its contract. The loop's invariant: to sweep from place p, in the memory as it is, is the whole search.
+-- `walk::search` meets its contract. The loop's invariant: to sweep from place p, in the memory as it is, is the whole search,
+-- and the flags that are set say what was found.
 -- The measure is what is left of 8192 places.
 -- Assumes nothing.
 use mathlib.Core.Path.{_≡_, refl, sym, ap, _∙_}
@@ -8,25 +9,27 @@ use borrow.Author.Tests.{eq-eqb, ne-eqb}
 use lib.ListN.{getD}
 use Rattle.numbered.specs.Candidates.{goalAt, candidates}
 use Rattle.walk.specs.Walk.{Walk, sweep, search}
-use Rattle.walk.specs.Needed.{walkOf, Kept}
+use Rattle.walk.specs.Needed.{walkOf, Kept, Opened}
 use Rattle.walk.proofs.Walks.{sweep-met, sweep-more, sweep-done}
 use Rattle.walk.proofs.Keeping.{kept-empty, kept-count, kept-visit, kept-visits}
 use Rattle.walk.proofs.Full.{sweep-full}
+use Rattle.walk.proofs.Again.{none-set}
 use Rattle.walk.proofs.Targets.{inside-candidates}
 use Rattle.walk.proofs.search.Statement.{statement}
 use Rattle.walk.proofs.search.Tie as tie
 
 abbrev Inv-loop : tie.InvT-loop
-Inv-loop area₀ store t z start all w₀ p₀ area w p =
+Inv-loop area₀ store t z start all opened₀ w₀ p₀ area opened w p =
     Kept z (walkOf area w) × ((p ≤ 8192)
-    × (sweep (goalAt t z) (candidates store t z) (8192 - p) p (walkOf area w) ≡ sweep (goalAt t z) (candidates store t z) 8192 0 (walkOf area₀ w₀)))
+    × ((sweep (goalAt t z) (candidates store t z) (8192 - p) p (walkOf area w) ≡ sweep (goalAt t z) (candidates store t z) 8192 0 (walkOf area₀ w₀))
+    × Opened store t z opened (walkOf area w)))
 
 abbrev μ-loop : tie.MeasureT-loop
-μ-loop area₀ store t z start all w₀ p₀ area w p = 8192 - p
+μ-loop area₀ store t z start all opened₀ w₀ p₀ area opened w p = 8192 - p
 
 -- The function's entry and the memory, seen from the loop's head.
 abbrev entry : tie.At-loop Inv-loop μ-loop → tie.Start Inv-loop μ-loop
-entry a = a .before .before .before .before .before .before .before .before .before
+entry a = a .before .before .before .before .before .before .before .before .before .before
 
 abbrev memory : tie.At-loop Inv-loop μ-loop → Walk
 memory a = walkOf (a .loop .area) (a .loop .w)
@@ -41,21 +44,26 @@ whole : (a : tie.At-loop Inv-loop μ-loop) → let s = entry a in
 unfolding search
 whole a over =
     let s = entry a in
-    sym over ∙ a .loop .inv .1 .1 ∙ ap (sweep (goalAt (s .args .t .now) (s .args .z)) (candidates (s .args .store .now) (s .args .t .now) (s .args .z)) 8192 0) (a .before .before .before .visit .ensures)
+    sym over ∙ a .loop .inv .1 .1 .0 ∙ ap (sweep (goalAt (s .args .t .now) (s .args .z)) (candidates (s .args .store .now) (s .args .t .now) (s .args .z)) 8192 0) (a .before .before .before .visit .ensures)
 
 all-states-requires : tie.Need-all-states-requires Inv-loop μ-loop
 all-states-requires c κs = c .before .before .before .pre .1 .0
 
+none-opened-requires : tie.Need-none-opened-requires Inv-loop μ-loop
+none-opened-requires c κs = tt
+
 visit-requires : tie.Need-visit-requires Inv-loop μ-loop
 visit-requires c κs =
-    let s = c .before .before .before .before .before in
+    let s = c .before .before .before .before .before .before in
     (record { kept = kept-empty (s .args .z) (s .args .area .now) (s .pre .0); place = omega arith; sized = s .pre .1 .0 }, s .pre .1 .1)
 
 loop-holds : tie.Need-loop-holds Inv-loop μ-loop
 loop-holds c =
-    let s = c .before .before .before .before .before .before .before .before in
+    let s = c .before .before .before .before .before .before .before .before .before in
     let z = s .args .z in
-    (rw (c .before .before .visit .ensures) (kept-visit z (s .pre .1 .0 .few) (goalAt (s .args .t .now) z) 0 0 (s .args .start) (s .pre .1 .1) (kept-empty z (s .args .area .now) (s .pre .0))), (omega arith, refl))
+    let kept = kept-visit z (s .pre .1 .0 .few) (goalAt (s .args .t .now) z) 0 0 (s .args .start) (s .pre .1 .1) (kept-empty z (s .args .area .now) (s .pre .0)) in
+    let first = c .before .before .visit in
+    (rw (first .ensures) kept, (omega arith, (refl, none-set (walkOf (first .last .0) (first .result)) (c .before .before .before .before .none-opened .ensures))))
 
 same-length : tie.Need-same-length Inv-loop μ-loop
 same-length c = let a = c .before .before .before in a .loop .inv .0 .long ∙ sym (entry a .pre .0 .long)
@@ -73,7 +81,7 @@ returns-2 : tie.Need-returns-2 Inv-loop μ-loop
 returns-2 c =
     let a = c .before .before .before .before .before in
     let s = entry a in
-    let all = c .if3 .taken ∙ a .before .before .before .before .before .all-states .ensures in
+    let all = c .if3 .taken ∙ a .before .before .before .before .before .before .all-states .ensures in
     whole a (sweep-full (s .args .z) (s .pre .1 .0 .few) (goalAt (s .args .t .now) (s .args .z)) (memory a) (a .loop .inv .0) all
     (candidates (s .args .store .now) (s .args .t .now) (s .args .z)) (inside-candidates (s .args .store .now) (s .args .t .now) (s .pre .1 .0)) (8192 - a .loop .p) (a .loop .p))
 
@@ -88,34 +96,37 @@ cast-n c = let a = c .before .before .before .before .before .before in omega (a
 
 expand-requires : tie.Need-expand-requires Inv-loop μ-loop
 expand-requires c κs =
-    let a = c .before .before .before .before .before .before .before in
-    (record { kept = a .loop .inv .0; place = omega (arith, bound a); sized = entry a .pre .1 .0 }, a .loop .inv .0 .states (a .loop .p) (omega arith))
+    let a = c .before .before .before .before .before .before .before .before in
+    (record { kept = a .loop .inv .0; place = omega (arith, bound a); sized = entry a .pre .1 .0 }, (a .loop .inv .0 .states (a .loop .p) (omega arith), a .loop .inv .1 .1 .1))
 
 add-p : tie.Need-add-p Inv-loop μ-loop
-add-p c = omega (arith, bound (c .before .before .before .before .before .before .before .before .before .before))
+add-p c = omega (arith, bound (c .before .before .before .before .before .before .before .before .before .before .before))
 
 loop-less : tie.Need-loop-less Inv-loop μ-loop
-loop-less c = omega (arith, bound (c .before .before .before .before .before .before .before .before .before .before))
+loop-less c = omega (arith, bound (c .before .before .before .before .before .before .before .before .before .before .before))
 
 loop-again : tie.Need-loop-again Inv-loop μ-loop
 loop-again c =
-    let a = c .before .before .before .before .before .before .before .before .before .before in
+    let a = c .before .before .before .before .before .before .before .before .before .before .before in
     let s = entry a in
     let z = s .args .z in
     let goal = goalAt (s .args .t .now) z in
     let steps = candidates (s .args .store .now) (s .args .t .now) z in
     let p : ℕ = a .loop .p in
     let w : Walk = memory a in
-    let here : p < w .count = omega (arith, c .before .before .before .before .before .before .before .before .if1 .taken) in
+    let here : p < w .count = omega (arith, c .before .before .before .before .before .before .before .before .before .if1 .taken) in
     let most : w .count ≤ 8192 = bound a in
     let fuel : 8192 - p ≡ suc (8192 - (p + 1)) = omega arith in
-    let turned = c .before .before .expand .ensures in (
+    let turned = c .before .before .expand .ensures .0 in (
       rw turned (kept-visits z (s .pre .1 .0 .few) goal p (steps (getD (w .area) p 0)) (inside-candidates (s .args .store .now) (s .args .t .now) (s .pre .1 .0) (getD (w .area) p 0) (a .loop .inv .0 .states p here)) (a .loop .inv .0)),
       (
         omega arith,
-        ap (sweep goal steps (8192 - (p + 1)) (p + 1)) turned
-            ∙ sym (sweep-more goal steps (8192 - (p + 1)) p w (ne-eqb _ _ (c .before .before .before .before .before .before .before .if2 .left)) here)
-            ∙ ap (λ (f : ℕ). sweep goal steps f p w) (sym fuel) ∙ a .loop .inv .1 .1,
+        (
+          ap (sweep goal steps (8192 - (p + 1)) (p + 1)) turned
+              ∙ sym (sweep-more goal steps (8192 - (p + 1)) p w (ne-eqb _ _ (c .before .before .before .before .before .before .before .before .if2 .left)) here)
+              ∙ ap (λ (f : ℕ). sweep goal steps f p w) (sym fuel) ∙ a .loop .inv .1 .1 .0,
+          c .before .before .expand .ensures .1,
+        ),
       ),
     )
 
@@ -135,6 +146,7 @@ search-spec =
     Inv-loop
     μ-loop
     all-states-requires
+    none-opened-requires
     visit-requires
     loop-holds
     same-length

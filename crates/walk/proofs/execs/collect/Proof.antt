@@ -1,88 +1,68 @@
--- `execs::collect` meets its contract: the image of the subjects looked at stands in front. The measure is what is left of the subjects.
+-- `execs::collect` meets its contract: those of the subjects looked at that are in the image stand in front. The measure is what is left of the subjects.
 -- Assumes nothing.
-use mathlib.Core.Path.{_≡_, sym, ap, _∙_}
-use mathlib.Core.List.{_++_}
-use Prim.Native.Nat.{ℕ, _-_, _≤_, _<_}
+use mathlib.Core.Path.{_≡_, refl, sym}
+use mathlib.Core.Bool.{Bool}
+use mathlib.Core.List.{[]}
+use Prim.Native.Nat.{ℕ, _-_, _≤_}
 use native.Mathlib.Omega.{arith}
-use lib.ListN.{length, drop}
+use lib.ListN.{length}
+use Rattle.numbered.specs.Candidates.{inImage}
 use Rattle.walk.specs.Image.{imageOf}
-use Rattle.walk.proofs.Images.{Collected, collect-starts, collect-hit, collect-miss, collected-length, image-few}
+use Rattle.walk.proofs.Images.{Collected, collected-few, collect-turn, collect-ends, collected-length}
 use Rattle.walk.proofs.execs.collect.Statement.{statement}
 use Rattle.walk.proofs.execs.collect.Tie as tie
 
 abbrev Inv-loop : tie.InvT-loop
-Inv-loop t x subjects out₀ n₀ k₀ out n k = Collected t (x .from) (x .place) (x .path) out₀ out n k × (k ≤ subjects)
+Inv-loop t x subjects out₀ n₀ k₀ out n k = Collected [] (inImage t (x .from) (x .place) (x .path)) out₀ out n k × (k ≤ subjects)
 
 abbrev μ-loop : tie.MeasureT-loop
 μ-loop t x subjects out₀ n₀ k₀ out n k = subjects - k
 
+test : (c : tie.At-loop Inv-loop μ-loop) → ℕ → Bool
+test c = let a = c .before .before .before .args in inImage (a .t .now) (a .x .from) (a .x .place) (a .x .path)
+
 -- No more were written than looked at, and the length stays.
-few : (c : tie.In-loop Inv-loop μ-loop) → (c .before .loop .n ≤ c .before .loop .k) × (length (c .before .loop .out) ≡ length (c .before .before .before .before .args .out .now))
+few : (c : tie.At-loop Inv-loop μ-loop) → (c .loop .n ≤ c .loop .k) × (length (c .loop .out) ≡ length (c .before .before .before .args .out .now))
+unfolding test
 few c =
-    let s = c .before .before .before .before in
-    let x = s .args .x in
-    let l = c .before .loop in (
-      omega (arith, l .inv .0 .size, image-few (s .args .t .now) (x .from) (x .place) (x .path) (l .k)),
-      collected-length (s .args .t .now) (x .from) (x .place) (x .path) (l .inv .0) (omega (arith, l .inv .1, s .pre .1)),
-    )
+    let s = c .before .before .before in
+    let l = c .loop in
+    (omega (arith, collected-few [] (test c) (l .inv .0)), collected-length [] (test c) (l .inv .0) (omega (arith, l .inv .1, s .pre .1)))
 
 loop-holds : tie.Need-loop-holds Inv-loop μ-loop
-loop-holds c = let x = c .before .before .args .x in (collect-starts (c .before .before .args .t .now) (x .from) (x .place) (x .path) (c .before .before .args .out .now), omega arith)
-
-cast-subject : tie.Need-cast-subject Inv-loop μ-loop
-cast-subject c = omega arith
+loop-holds c = (record { size = refl; written = refl }, omega arith)
 
 in-image-requires : tie.Need-in-image-requires Inv-loop μ-loop
 in-image-requires c κs = omega arith
 
+cast-keep : tie.Need-cast-keep Inv-loop μ-loop
+cast-keep c = omega arith
+
+keep-requires : tie.Need-keep-requires Inv-loop μ-loop
+keep-requires c κs = let f = few (c .before .before .before) in (omega (arith, f), omega (arith, f))
+
 add-k : tie.Need-add-k Inv-loop μ-loop
 add-k c = omega arith
-
-slice-write-out : tie.Need-slice-write-out Inv-loop μ-loop
-slice-write-out c = omega (arith, few (c .before .before))
-
-add-n : tie.Need-add-n Inv-loop μ-loop
-add-n c = omega (arith, few (c .before .before))
 
 loop-less : tie.Need-loop-less Inv-loop μ-loop
 loop-less c = omega arith
 
 loop-again : tie.Need-loop-again Inv-loop μ-loop
+unfolding test
 loop-again c =
-    let s = c .before .before .before .before .before .before in
-    let x = s .args .x in
-    let l = c .before .before .before .loop in
-    let within : l .k < length (s .args .out .now) = omega (arith, s .pre .1) in
-    (collect-hit (s .args .t .now) (x .from) (x .place) (x .path) (l .inv .0) within (sym (c .before .in-image .ensures) ∙ c .if1 .taken), omega arith)
-
-loop-less-2 : tie.Need-loop-less-2 Inv-loop μ-loop
-loop-less-2 c = omega arith
-
-loop-again-2 : tie.Need-loop-again-2 Inv-loop μ-loop
-loop-again-2 c =
-    let s = c .before .before .before .before .before .before in
-    let x = s .args .x in
-    let l = c .before .before .before .loop in
-    let within : l .k < length (s .args .out .now) = omega (arith, s .pre .1) in
-    (collect-miss (s .args .t .now) (x .from) (x .place) (x .path) (l .inv .0) within (sym (c .before .in-image .ensures) ∙ c .if1 .left), omega arith)
+    let at = c .before .before .before .before .before .before in
+    let s = at .before .before .before in
+    let hit = c .before .before .before .before .in-image in
+    (rw (c .before .before .keep .ensures .0, c .before .before .keep .ensures .1) (collect-turn [] (test at) (at .loop .inv .0) (omega (arith, s .pre .1)) (hit .result) (sym (hit .ensures))), omega arith)
 
 same-length : tie.Need-same-length Inv-loop μ-loop
-same-length c =
-    let s = c .before .before .before .before in
-    let x = s .args .x in
-    let l = c .before .loop in
-    collected-length (s .args .t .now) (x .from) (x .place) (x .path) (l .inv .0) (omega (arith, l .inv .1, s .pre .1))
+same-length c = few (c .before) .1
 
 returns : tie.Need-returns Inv-loop μ-loop
+unfolding test imageOf
 returns c =
-    let s = c .before .before .before .before in
-    let x = s .args .x in
     let l = c .before .loop in
-    let all : l .k ≡ s .args .subjects = omega (arith, l .inv .1) in
-    record {
-      size = sym (l .inv .0 .size) ∙ ap (λ (k : ℕ). length (imageOf (s .args .t .now) (x .from) (x .place) (x .path) k)) all;
-      kept = l .inv .0 .written ∙ ap (λ (k : ℕ). imageOf (s .args .t .now) (x .from) (x .place) (x .path) k ++ drop (l .n) (s .args .out .now)) all;
-    }
+    collect-ends [] (test (c .before)) (l .inv .0) (c .before .before .before .before .args .subjects) (omega (arith, l .inv .1))
 
 pub collect-spec : {M : Type 1} → statement M
 collect-spec =
@@ -91,14 +71,11 @@ collect-spec =
     Inv-loop
     μ-loop
     loop-holds
-    cast-subject
     in-image-requires
+    cast-keep
+    keep-requires
     add-k
-    slice-write-out
-    add-n
     loop-less
     loop-again
-    loop-less-2
-    loop-again-2
     same-length
     returns)

@@ -1,64 +1,69 @@
--- `execs::exec_groups` meets its contract: the kept one, then by the laws of a loop that visits steps. The measure is what is left of the choices.
+-- `execs::exec_groups` meets its contract, by the laws of a loop that visits steps. The measure is what is left of the list.
 -- Assumes nothing.
-use mathlib.Core.Path.{sym, ap, _∙_}
-use Prim.Native.Nat.{_-_}
+use mathlib.Core.Path.{sym, _∙_}
+use mathlib.Core.List.{[], _∷_}
+use Prim.Native.Nat.{_+_, _*_, _-_, _<_}
 use native.Mathlib.Omega.{arith}
-use Rattle.numbered.specs.Candidates.{goalAt, flat, bySubject, otherGroup, byGroup}
-use Rattle.walk.specs.Walk.{visits}
+use lib.ListN.{length, getD}
+use Rattle.numbered.specs.Candidates.{goalAt}
 use Rattle.walk.specs.Needed.{walkOf}
-use Rattle.walk.proofs.Walks.{visits-append}
-use Rattle.walk.proofs.Loops.{Left, going-on, begins, turns, ends}
-use Rattle.walk.proofs.Targets.{inside-subjects, inside-other-group}
+use Rattle.walk.specs.Image.{isAnother, followersOf}
+use Rattle.walk.proofs.Walks.{visits-as}
+use Rattle.walk.proofs.Loops.{Left, begins, turns, ends}
+use Rattle.walk.proofs.Targets.{among-group, inside-subjects}
+use Rattle.walk.proofs.Images.{at, listed-lt, toGroup, group-steps}
 use Rattle.walk.proofs.execs.exec_groups.Statement.{statement}
 use Rattle.walk.proofs.execs.exec_groups.Tie as tie
 
 abbrev Inv-loop : tie.InvT-loop
-Inv-loop area₀ t z image p x d done₀ j₀ area done j = Left z (goalAt t z) p (otherGroup t z d (x .from) (x .place) (x .path)) (z .groups) (walkOf area₀ done₀) (walkOf area done) j
+Inv-loop area₀ t z groups image p x d done₀ j₀ area done j = Left z (goalAt t z) p (at (toGroup t z d (x .from) (x .place) (x .path)) groups) (length groups) (walkOf area₀ done₀) (walkOf area done) j
 
 abbrev μ-loop : tie.MeasureT-loop
-μ-loop area₀ t z image p x d done₀ j₀ area done j = z .groups - j
+μ-loop area₀ t z groups image p x d done₀ j₀ area done j = length groups - j
 
-exec-subjects-requires : tie.Need-exec-subjects-requires Inv-loop μ-loop
-exec-subjects-requires c κs = c .before .before .before .before .pre
+-- A group of the list is one of the choices.
+choice : (c : tie.In-loop Inv-loop μ-loop) → getD (c .before .before .before .before .before .before .args .groups .now) (c .before .loop .j) 0 < c .before .before .before .before .before .before .args .z .groups
+unfolding followersOf
+choice c =
+    let s = c .before .before .before .before .before .before in
+    let a = s .args in
+    listed-lt (a .d .group ∷ []) (isAnother (a .t .now) (512 + 8 * a .x .from) (a .d .group)) (a .z .groups) (s .pre .1 .1 .1) (s .pre .1 .0 .group, tt) (c .before .loop .j) (c .loop-test .taken)
 
 loop-holds : tie.Need-loop-holds Inv-loop μ-loop
-loop-holds c =
-    let s = c .before .before .before .before .before .before .before in
-    let a = s .args in
-    let x = a .x in
-    begins (going-on (goalAt (a .t .now) (a .z)) (s .pre .0) (bySubject (a .t .now) (a .z) (a .d) (x .from) (x .place) (x .path))
-    (inside-subjects (a .t .now) (x .from) (x .place) (x .path) (s .pre .1 .0)) (c .before .before .exec-subjects .ensures))
+loop-holds c = begins (c .before .before .before .before .pre .0)
 
-other-group-requires : tie.Need-other-group-requires Inv-loop μ-loop
-other-group-requires c κs = let h = c .before .before .before .before .before .before .before .before .before .before .before .pre in (c .before .before .before .loop .inv .going, (h .1 .0, (c .before .if1 .taken, h .1 .1)))
+shared-slice-read-group : tie.Need-shared-slice-read-group Inv-loop μ-loop
+shared-slice-read-group c = omega arith
+
+cast-group : tie.Need-cast-group Inv-loop μ-loop
+cast-group c = omega (arith, c .shared-slice-known4 .given (c .before .before .loop .j))
+
+exec-subjects-requires : tie.Need-exec-subjects-requires Inv-loop μ-loop
+exec-subjects-requires c κs = let h = c .before .before .before .before .before .before .before .before .pre in (c .before .before .before .loop .inv .going, (among-group (h .1 .0) (choice (c .before .before)), h .1 .1 .0))
 
 add-j : tie.Need-add-j Inv-loop μ-loop
-add-j c = omega (arith, c .before .before .before .before .before .before .before .before .before .before .before .before .before .before .pre .0 .sized .groups .1)
+add-j c = omega arith
 
 loop-less : tie.Need-loop-less Inv-loop μ-loop
 loop-less c = omega arith
 
 loop-again : tie.Need-loop-again Inv-loop μ-loop
 loop-again c =
-    let s = c .before .before .before .before .before .before .before .before .before .before .before .before .before .before in
+    let in-loop = c .before .before .before .before .before in
+    let s = in-loop .before .before .before .before .before .before in
     let x = s .args .x in
-    let l = c .before .before .before .before .before .before .loop in
-    turns (l .inv) (c .before .before .before .before .if1 .taken) (inside-other-group (s .args .t .now) (x .from) (x .place) (x .path) (s .pre .1 .0) (l .j) (c .before .before .before .before .if1 .taken)) (c .before .before .other-group .ensures)
+    turns (in-loop .before .loop .inv) (in-loop .loop-test .taken) (inside-subjects (s .args .t .now) (x .from) (x .place) (x .path) (among-group (s .pre .1 .0) (choice in-loop))) (c .before .before .exec-subjects .ensures)
 
 same-length : tie.Need-same-length Inv-loop μ-loop
-same-length c = c .before .before .loop .inv .going .kept .long ∙ sym (c .before .before .before .before .before .before .before .before .before .before .pre .0 .kept .long)
+same-length c = c .before .loop .inv .going .kept .long ∙ sym (c .before .before .before .before .before .before .pre .0 .kept .long)
 
 returns : tie.Need-returns Inv-loop μ-loop
-unfolding byGroup
 returns c =
-    let s = c .before .before .before .before .before .before .before .before .before .before in
+    let s = c .before .before .before .before .before .before in
     let a = s .args in
     let x = a .x in
-    let goal = goalAt (a .t .now) (a .z) in
-    let others = flat (otherGroup (a .t .now) (a .z) (a .d) (x .from) (x .place) (x .path)) 0 (a .z .groups) in
-    ends (c .before .before .loop .inv) (c .if1 .left)
-    ∙ ap (visits goal (a .p) others) (c .before .before .before .before .before .exec-subjects .ensures)
-    ∙ sym (visits-append goal (a .p) (bySubject (a .t .now) (a .z) (a .d) (x .from) (x .place) (x .path)) others (walkOf (a .area .now) (a .w)))
+    visits-as (goalAt (a .t .now) (a .z)) (a .p) (walkOf (a .area .now) (a .w)) (ends (c .before .loop .inv) (c .loop-test .left))
+    (group-steps (a .t .now) (a .z) (a .d) (x .from) (x .place) (x .path) (a .groups .now) (s .pre .1 .1 .1))
 
 pub exec-groups-spec : {M : Type 1} → statement M
 exec-groups-spec =
@@ -66,9 +71,10 @@ exec-groups-spec =
     (tie.spec
     Inv-loop
     μ-loop
-    exec-subjects-requires
     loop-holds
-    other-group-requires
+    shared-slice-read-group
+    cast-group
+    exec-subjects-requires
     add-j
     loop-less
     loop-again

@@ -1,25 +1,26 @@
 -- `execs::exec_subjects` meets its contract, by the laws of a loop that visits steps. The measure is what is left of the image.
 -- Assumes nothing.
 use mathlib.Core.Path.{_≡_, sym, ap, _∙_}
-use mathlib.Core.List.{List}
+use mathlib.Core.List.{List, []}
 use Prim.Native.Nat.{ℕ, _+_, _-_, _<_}
 use native.Mathlib.Omega.{arith}
 use lib.ListN.{length, getD}
 use Rattle.numbered.specs.Number.{allStates, numberOf}
-use Rattle.numbered.specs.Candidates.{Step, goalAt, withSubject}
+use Rattle.numbered.specs.Candidates.{Step, goalAt, withSubject, inImage}
 use Rattle.numbered.specs.declared.Sizes.{Sizes}
 use Rattle.numbered.specs.declared.Digits.{Digits}
 use Rattle.walk.specs.Walk.{visits}
 use Rattle.walk.specs.Needed.{walkOf}
+use Rattle.walk.specs.Image.{imageOf}
 use Rattle.numbered.proofs.Radix.{numberOf-lt}
 use Rattle.walk.proofs.Loops.{Left, begins, turns, ends}
 use Rattle.walk.proofs.Targets.{among-subject}
-use Rattle.walk.proofs.Images.{imageStep, image-lt, image-steps}
+use Rattle.walk.proofs.Images.{at, toSubject, listed-lt, image-steps}
 use Rattle.walk.proofs.execs.exec_subjects.Statement.{statement}
 use Rattle.walk.proofs.execs.exec_subjects.Tie as tie
 
 abbrev Inv-loop : tie.InvT-loop
-Inv-loop area₀ t z image p base c done₀ k₀ area done k = Left z (goalAt t z) p (imageStep c base image) (length image) (walkOf area₀ done₀) (walkOf area done) k
+Inv-loop area₀ t z image p base c done₀ k₀ area done k = Left z (goalAt t z) p (at (toSubject c base) image) (length image) (walkOf area₀ done₀) (walkOf area done) k
 
 abbrev μ-loop : tie.MeasureT-loop
 μ-loop area₀ t z image p base c done₀ k₀ area done k = length image - k
@@ -34,12 +35,12 @@ first c = row (c .before .before .before .before .before .before .args .z) (c .b
 
 -- A step to a subject of the image leads to a state.
 target : (c : tie.In-loop Inv-loop μ-loop) → c .before .before .before .number .result + getD (c .before .before .before .before .before .before .before .args .image .now) (c .before .loop .k) 0 < allStates (c .before .before .before .before .before .before .before .args .z)
+unfolding imageOf
 target c =
     let s = c .before .before .before .before .before .before .before in
     let x = s .args .x in
     let at : ℕ = getD (s .args .image .now) (c .before .loop .k) 0 in
-    let lt : at < s .args .z .subjects =
-    rw (s .pre .1 .1) (image-lt (s .args .t .now) (x .from) (x .place) (x .path) (s .args .z .subjects) (c .before .loop .k) (rw (s .pre .1 .1) at (c .loop-test .taken))) in
+    let lt : at < s .args .z .subjects = listed-lt [] (inImage (s .args .t .now) (x .from) (x .place) (x .path)) (s .args .z .subjects) (s .pre .1 .1) tt (c .before .loop .k) (c .loop-test .taken) in
     rw (first (c .before) at) (numberOf-lt (among-subject (s .pre .1 .0) lt))
 
 number-requires : tie.Need-number-requires Inv-loop μ-loop

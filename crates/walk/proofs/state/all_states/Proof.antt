@@ -1,15 +1,12 @@
 -- `walk::state::all_states` meets its contract: every product on the way is at most the last, which is small.
 -- Assumes nothing.
 use mathlib.Core.Path.{refl}
-use Prim.Native.Nat.{ℕ, _*_, _≤_, _<_}
+use Prim.Native.Nat.{ℕ, _*_, _≤_}
 use native.Mathlib.Omega.{arith}
-use native.Mathlib.Nat.{mul-le-mul-left, mul-one}
 use Rattle.numbered.specs.Number.{allStates}
+use Rattle.numbered.proofs.Radix.{grows}
 use Rattle.walk.proofs.state.all_states.Statement.{statement}
 use Rattle.walk.proofs.state.all_states.Tie as tie
-
-grows : (a k : ℕ) → 0 < k → a ≤ a * k
-grows a k h = omega (arith, mul-le-mul-left a h, mul-one a)
 
 module _ (s : tie.Start) where
   abbrev two : ℕ

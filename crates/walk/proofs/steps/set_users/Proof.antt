@@ -1,104 +1,64 @@
--- `steps::set_users` meets its contract, by the laws of a loop that visits steps. The measure is what is left of the choices.
+-- `steps::set_users` meets its contract: without set_uid nothing is offered, and with it the users are a row.
 -- Assumes nothing.
 use borrow.Author.Tests.{not-true, not-false}
 use borrow.Author.Needs.{needs}
-use mathlib.Core.Path.{sym, _∙_}
-use Prim.Native.Nat.{ℕ, _-_}
+use mathlib.Core.Path.{_∙_}
+use Prim.Native.Nat.{ℕ}
 use native.Mathlib.Omega.{arith}
 use Rattle.gran.specs.Policy.{SET-UID}
 use Rattle.gran.specs.Access.{has}
+use Rattle.tables.specs.Tables.{userReachCell}
 use Rattle.numbered.specs.Candidates.{goalAt, userStep}
 use Rattle.walk.specs.Needed.{walkOf}
 use Rattle.walk.proofs.Walks.{visits-none, visits-as}
 use Rattle.walk.proofs.Tests.{read, users-none, users-some}
-use Rattle.numbered.proofs.Radix.{numberOf-lt}
-use Rattle.walk.proofs.Loops.{Left, begins, turns, ends}
-use Rattle.walk.proofs.Targets.{among-user, inside-user}
+use Rattle.walk.proofs.Rows.{strides-near, users-spaced, row-of, row-steps}
 use Rattle.walk.proofs.steps.set_users.Statement.{statement}
 use Rattle.walk.proofs.steps.set_users.Tie as tie
 
-abbrev Inv-loop : tie.InvT-loop
-Inv-loop area₀ store t z p d entry done₀ j₀ area done j = Left z (goalAt t z) p (userStep t z d entry) (z .users) (walkOf area₀ done₀) (walkOf area done) j
-
-abbrev μ-loop : tie.MeasureT-loop
-μ-loop area₀ store t z p d entry done₀ j₀ area done j = z .users - j
-
-entry-caps-requires : tie.Need-entry-caps-requires Inv-loop μ-loop
+entry-caps-requires : tie.Need-entry-caps-requires
 entry-caps-requires c κs = search needs
 
-set-uid-requires : tie.Need-set-uid-requires Inv-loop μ-loop
+set-uid-requires : tie.Need-set-uid-requires
 set-uid-requires c κs = search needs
 
-returns : tie.Need-returns Inv-loop μ-loop
+returns : tie.Need-returns
 returns c =
-    let s = c .before .before .before .before .before .before in
-    visits-none (goalAt (s .args .t .now) (s .args .z)) (s .args .p) (walkOf (s .args .area .now) (s .args .w))
-    (users-none (s .args .store .now) (s .args .t .now) (s .args .z) (s .args .d) (s .args .entry)
+    let a = c .before .before .before .before .before .before .args in
+    visits-none (goalAt (a .t .now) (a .z)) (a .p) (walkOf (a .area .now) (a .w))
+    (users-none (a .store .now) (a .t .now) (a .z) (a .d) (a .entry)
     (read (λ (m : ℕ). has m SET-UID) (c .before .before .entry-caps .ensures) (c .before .set-uid .ensures) (not-true (c .before .set-uid .result) (c .if1 .taken))))
 
-loop-holds : tie.Need-loop-holds Inv-loop μ-loop
-loop-holds c = begins (c .before .before .before .before .before .before .pre .0)
+number-requires : tie.Need-number-requires
+number-requires c κs = search needs
 
-mul-is-set : tie.Need-mul-is-set Inv-loop μ-loop
-mul-is-set c = omega arith
+mul-stride : tie.Need-mul-stride
+mul-stride c = omega (arith, strides-near (c .before .before .before .before .before .before .before .before .pre .0 .sized) .user)
 
-add-is-set : tie.Need-add-is-set Inv-loop μ-loop
-add-is-set c = omega (arith, c .before .before .before .before .before .before .before .before .before .pre .0 .sized .users .1)
+mul-cells : tie.Need-mul-cells
+mul-cells c = search needs
 
-add-is-set-2 : tie.Need-add-is-set-2 Inv-loop μ-loop
-add-is-set-2 c = omega (arith, c .before .before .before .before .before .before .before .before .before .pre .0 .sized .users .1)
+add-cells : tie.Need-add-cells
+add-cells c = search needs
 
-is-set-requires : tie.Need-is-set-requires Inv-loop μ-loop
-is-set-requires c κs = search needs
+offer-row-requires : tie.Need-offer-row-requires
+offer-row-requires c κs =
+    let h = c .before .before .before .before .before .before .before .before .before .pre in
+    (h .0, row-of (users-spaced (h .0 .sized) (h .1)) (c .before .before .number .ensures) (omega (arith, h .0 .sized .users .1)))
 
-number-requires : tie.Need-number-requires Inv-loop μ-loop
-number-requires c κs = let s = c .before .before .before .before .before .before .before .before .before .before in (s .pre .0 .sized, among-user (s .pre .1) (c .before .if2 .taken))
+same-length : tie.Need-same-length
+same-length c = search needs
 
-offer-requires : tie.Need-offer-requires Inv-loop μ-loop
-offer-requires c κs = (c .before .before .before .before .before .loop .inv .going, rw (c .before .number .ensures) (numberOf-lt (among-user (c .before .before .before .before .before .before .before .before .before .before .before .before .pre .1) (c .before .before .before .if2 .taken))))
-
-add-j : tie.Need-add-j Inv-loop μ-loop
-add-j c = omega (arith, c .before .before .before .before .before .before .before .before .before .before .before .before .before .before .before .pre .0 .sized .users .1)
-
-loop-less : tie.Need-loop-less Inv-loop μ-loop
-loop-less c = omega arith
-
-loop-again : tie.Need-loop-again Inv-loop μ-loop
+returns-2 : tie.Need-returns-2
 unfolding userStep
-loop-again c =
-    let s = c .before .before .before .before .before .before .before .before .before .before .before .before .before .before .before in
-    let l = c .before .before .before .before .before .before .before .before .loop in
-    turns (l .inv) (c .before .before .before .before .before .before .if2 .taken) (inside-user (s .args .t .now) (s .pre .1) (s .args .entry) (l .j) (c .before .before .before .before .before .before .if2 .taken))
-    (rw (c .before .before .before .before .before .is-set .ensures, c .before .before .before .before .number .ensures) at (c .before .before .offer .ensures))
-
-same-length : tie.Need-same-length Inv-loop μ-loop
-same-length c = c .before .before .loop .inv .going .kept .long ∙ sym (c .before .before .before .before .before .before .before .before .before .pre .0 .kept .long)
-
-returns-2 : tie.Need-returns-2 Inv-loop μ-loop
 returns-2 c =
-    let s = c .before .before .before .before .before .before .before .before .before in
-    visits-as (goalAt (s .args .t .now) (s .args .z)) (s .args .p) (walkOf (s .args .area .now) (s .args .w)) (ends (c .before .before .loop .inv) (c .if2 .left))
-    (users-some (s .args .store .now) (s .args .t .now) (s .args .z) (s .args .d) (s .args .entry)
-    (read (λ (m : ℕ). has m SET-UID) (c .before .before .before .before .before .entry-caps .ensures) (c .before .before .before .before .set-uid .ensures) (not-false (c .before .before .before .before .set-uid .result) (c .before .before .before .if1 .left))))
+    let s = c .before .before .before .before .before .before .before .before .before .before .before .before in
+    let a = s .args in
+    let is-set = c .before .before .before .before .before .before .before .set-uid in
+    visits-as (goalAt (a .t .now) (a .z)) (a .p) (walkOf (a .area .now) (a .w)) (c .before .before .offer-row .ensures)
+    (row-steps (users-spaced (s .pre .0 .sized) (s .pre .1)) (c .before .before .before .before .before .number .ensures) (a .t .now) _ 97 (userReachCell (a .entry)) (λ j. omega arith)
+    ∙ users-some (a .store .now) (a .t .now) (a .z) (a .d) (a .entry)
+    (read (λ (m : ℕ). has m SET-UID) (c .before .before .before .before .before .before .before .before .entry-caps .ensures) (is-set .ensures) (not-false (is-set .result) (c .before .before .before .before .before .before .if1 .left))))
 
 pub set-users-spec : {M : Type 1} → statement M
-set-users-spec =
-    tie.close
-    (tie.spec
-    Inv-loop
-    μ-loop
-    entry-caps-requires
-    set-uid-requires
-    returns
-    loop-holds
-    mul-is-set
-    add-is-set
-    add-is-set-2
-    is-set-requires
-    number-requires
-    offer-requires
-    add-j
-    loop-less
-    loop-again
-    same-length
-    returns-2)
+set-users-spec = tie.close (tie.spec entry-caps-requires set-uid-requires returns number-requires mul-stride mul-cells add-cells offer-row-requires same-length returns-2)
