@@ -8,6 +8,7 @@ use native.Mathlib.Omega.{arith}
 use lib.ListN.{length, take, drop, take-append-drop, length-append, length-take, length-drop}
 use Rattle.paths.proofs.Bools.{both, left, right}
 use Rattle.gran.specs.Policy.{Policy}
+use Rattle.gran.specs.Good.{Good}
 use Rattle.gran.specs.Abstract.{Act, may, next, run, last}
 use Rattle.gran.specs.Reach.{Question, Granted}
 use Rattle.gran.specs.Run.{First}
@@ -17,12 +18,8 @@ use Rattle.gran.proofs.Counting.{few-below}
 use Rattle.gran.proofs.Answers.{first-fewest}
 use Rattle.runs.proofs.Count.{values, values-length, values-of, values-distinct}
 use Rattle.runs.proofs.Trails.{last-append, run-append}
-
--- the states that runs from α come to have numbers of their own, below `most`
-pub record Numbering (P : Policy) (α : State) (most : ℕ) : Type 0 where
-  pub number : State → ℕ
-  pub below : (acts : List Act) → So (run P α acts) → number (last α acts) < most
-  pub injective : (xs ys : List Act) → So (run P α xs) → So (run P α ys) → number (last α xs) ≡ number (last α ys) → last α xs ≡ last α ys
+use Rattle.numbered.specs.Number.{Inside, stateNumber}
+use Rattle.numbered.proofs.Numbers.{number-lt, number-injective, next-inside}
 
 -- ---- runs in two parts
 
@@ -35,26 +32,33 @@ module _ (P : Policy) where
   run-rest α [] ys r = r
   run-rest α (x ∷ xs) ys r = run-rest (next α x) xs ys (right (may P α x) _ r)
 
-  module _ (α : State) where
-    module _ (q : Question) (zs : List Act) (f : First P α (Granted P q α) zs) where
-      run-to : (k : ℕ) → So (run P α (take k zs))
-      run-to k = run-first α (take k zs) (drop k zs) (rw (take-append-drop k zs) (f .has .runs))
+  module _ (α : State) (q : Question) (zs : List Act) (f : First P α (Granted P q α) zs) where
+    run-to : (k : ℕ) → So (run P α (take k zs))
+    run-to k = run-first α (take k zs) (drop k zs) (rw (take-append-drop k zs) (f .has .runs))
 
-      -- what lies between two like states can be left out
-      no-state-twice : (j k : ℕ) → j < k → k ≤ length zs → last α (take j zs) ≡ last α (take k zs) → ⊥
-      no-state-twice j k l h e =
-          let rest : So (run P (last α (take j zs)) (drop k zs)) = rw e (run-rest α (take k zs) (drop k zs) (rw (take-append-drop k zs) (f .has .runs))) in
-          let ends : last α (take j zs ++ drop k zs) ≡ last α zs
-          = last-append α (take j zs) (drop k zs) ∙ rw e (sym (last-append α (take k zs) (drop k zs))) ∙ ap (last α) (take-append-drop k zs) in
-          let cut : Granted P q α (take j zs ++ drop k zs)
-          = record { runs = run-append P α (take j zs) (drop k zs) (run-to j) rest; granted = rw ends (f .has .granted) } in
-          let fewest : length zs ≤ length (take j zs ++ drop k zs) = first-fewest P α (Granted P q α) zs (take j zs ++ drop k zs) f cut in
-          omega (arith, simp (length-append, length-take, length-drop) at fewest)
+    -- what lies between two like states can be left out
+    no-state-twice : (j k : ℕ) → j < k → k ≤ length zs → last α (take j zs) ≡ last α (take k zs) → ⊥
+    no-state-twice j k l h e =
+        let rest : So (run P (last α (take j zs)) (drop k zs)) = rw e (run-rest α (take k zs) (drop k zs) (rw (take-append-drop k zs) (f .has .runs))) in
+        let ends : last α (take j zs ++ drop k zs) ≡ last α zs
+        = last-append α (take j zs) (drop k zs) ∙ rw e (sym (last-append α (take k zs) (drop k zs))) ∙ ap (last α) (take-append-drop k zs) in
+        let cut : Granted P q α (take j zs ++ drop k zs)
+        = record { runs = run-append P α (take j zs) (drop k zs) (run-to j) rest; granted = rw ends (f .has .granted) } in
+        let fewest : length zs ≤ length (take j zs ++ drop k zs) = first-fewest P α (Granted P q α) zs (take j zs ++ drop k zs) f cut in
+        omega (arith, simp (length-append, length-take, length-drop) at fewest)
 
-      pub first-short : (most : ℕ) → Numbering P α most → length zs < most
-      first-short most n =
-          let number : ℕ → ℕ = λ k. n .number (last α (take k zs)) in
+    module _ (good : Good P) (inside : Inside P α) where
+      run-inside : (β : State) → Inside P β → (acts : List Act) → So (run P β acts) → Inside P (last β acts)
+      run-inside β here [] r = here
+      run-inside β here (x ∷ xs) r = run-inside (next β x) (next-inside P good β here x (left (may P β x) _ r)) xs (right (may P β x) _ r)
+
+      came : (k : ℕ) → Inside P (last α (take k zs))
+      came k = run-inside α inside (take k zs) (run-to k)
+
+      pub first-short : length zs < 8192
+      first-short =
+          let number : ℕ → ℕ = λ k. stateNumber P (last α (take k zs)) in
           let states = values number (suc (length zs)) in
-          let below = all-of (λ (m : ℕ). m < most) states (λ m h. let (k, l, e) = values-of number (suc (length zs)) m h in rw (← e) (n .below (take k zs) (run-to k))) in
-          let apart = values-distinct number (suc (length zs)) (λ j k l h e. no-state-twice j k l (omega arith) (n .injective (take j zs) (take k zs) (run-to j) (run-to k) e)) (suc (length zs)) (omega arith) in
-          omega (arith, values-length number (suc (length zs)), few-below most states below apart)
+          let below = all-of (λ (m : ℕ). m < 8192) states (λ m h. let (k, l, e) = values-of number (suc (length zs)) m h in rw (← e) (number-lt P good (last α (take k zs)) (came k))) in
+          let apart = values-distinct number (suc (length zs)) (λ j k l h e. no-state-twice j k l (omega arith) (number-injective P (last α (take j zs)) (last α (take k zs)) (came j) (came k) e)) (suc (length zs)) (omega arith) in
+          omega (arith, values-length number (suc (length zs)), few-below 8192 states below apart)

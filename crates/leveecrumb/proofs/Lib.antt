@@ -1,6 +1,4 @@
 pub mod Outcomes
-pub mod Bytes
-pub mod Numbers
 pub mod Replays
 pub mod Relending
 pub mod Sharing

@@ -1,6 +1,6 @@
 -- A replay's outcome, from what its opening, the walk of its records and its closing say.
 -- Assumes nothing.
-use mathlib.Core.Path.{_≡_, refl, sym, ap, _∙_}
+use mathlib.Core.Path.{_≡_, refl, ap, _∙_}
 use mathlib.Core.List.{List}
 use Prim.Native.Nat.{ℕ, zero, suc, _≤_}
 use native.Mathlib.Omega.{arith}
@@ -16,29 +16,12 @@ use Rattle.leveecrumb.specs.declared.again.Opened.{Opened}
 use Rattle.leveecrumb.specs.declared.again.Replayed.{Replayed}
 use Rattle.leveecrumb.specs.Replaying.{Ended, refusing, telling, endedBy, endedAfter, replaying}
 use Rattle.leveecrumb.specs.Opening.{openedAfter, walks, OpenedAs, closed}
-use Rattle.leveecrumb.proofs.Outcomes.{early-lengths, settles}
+use Rattle.leveecrumb.proofs.Outcomes.{settles}
 
 -- ---- the opening and the closing
 
 abbrev pub earlyFor : List ℕ → Asked → List ℕ → ℕ
 earlyFor text a store = early (length text) (length store) 24576 a
-
-module _ (text : List ℕ) (a : Asked) (store : List ℕ) (records : ℕ) where
-  -- 1, 2 and 4 to 6
-  pub opens-early : (n : ℕ) → n ≡ earlyFor text a store → (n ≡ 0 → ⊥) → OpenedAs text a store records (record { number = n; line = 0; count = 0 }) store
-  opens-early n p ne = rw p (go (earlyFor text a store) refl)
-    where
-      go : (e : ℕ) → earlyFor text a store ≡ e → OpenedAs text a store records (record { number = e; line = 0; count = 0 }) store
-      go zero q = absurd (ne (p ∙ q))
-      go (suc m) q = record { number = rw q; line = rw q; count = refl; bytes = rw q }
-
-  module _ (n : ℕ) (p : n ≡ earlyFor text a store) (z : n ≡ 0) (number line : ℕ) (left : List ℕ) (l : LoadedAs text store number line left) where
-    none : earlyFor text a store ≡ 0
-    none = sym p ∙ z
-
-    -- 7 to 16, or a text that is loaded
-    pub opens-after : (count : ℕ) → count ≡ walks number records → OpenedAs text a store records (record { number = number; line = line; count = count }) left
-    opens-after count c = record { number = rw none (l .refusal); line = rw none (l .place); count = c; bytes = rw none (l .bytes) }
 
 -- a refusal walks none
 pub walks-none : (number records : ℕ) → (number ≡ 0 → ⊥) → 0 ≡ walks number records
@@ -74,8 +57,7 @@ module _ (text : List ℕ) (a : Asked) (rows : List Step) (store : List ℕ) (w 
         let all : take (w .count) rows ≡ rows = ap (λ (k : ℕ). take k rows) (rw z at (o .count)) ∙ take-length rows in
         rw read (c ∙ ap telling (rw all at (says P (drop 16384 store) L)), L .stored)
     ends-loaded (suc m) z e l c =
-        let long = early-lengths (length text) (length store) 24576 a e in
-        let loads = settles text store (long .0) (long .1) in
+        let loads = settles text a 24576 store e in
         go (reading text) (rw loads at (l .refusal)) (rw loads at (l .place)) (rw loads at (l .bytes))
       where
         go : (x : Reading) → suc m ≡ settled x store .number → w .line ≡ settled x store .line → left ≡ settled x store .bytes → EndsAs (endedBy x a rows store) r left
@@ -83,7 +65,7 @@ module _ (text : List ℕ) (a : Asked) (rows : List Step) (store : List ℕ) (w 
         go (accepted P) p q b = absurd (omega (arith, p))
 
     pub ends : r ≡ closed (w .number) (w .line) v → EndsAs (replaying text a rows store) r left
-    ends c = go (earlyFor text a store) refl (o .number) (o .line) (o .bytes)
+    ends c = go (earlyFor text a store) refl (o .loads .refusal) (o .loads .place) (o .loads .bytes)
       where
         go : (e : ℕ) → earlyFor text a store ≡ e → w .number ≡ openedAfter e text store .number → w .line ≡ openedAfter e text store .line → left ≡ openedAfter e text store .bytes → EndsAs (endedAfter e text a rows store) r left
         go zero e n k b = ends-loaded (w .number) refl e (record { refusal = n; place = k; bytes = b }) c

@@ -19,6 +19,7 @@ use Rattle.policy.specs.Load.{Reading, refused, accepted, reading, settled, Loa
 use Rattle.load.proofs.Callers.{loaded-holds}
 use Rattle.records.specs.declared.Step.{Step}
 use Rattle.records.specs.Record.{recordsOf, stepLines, summary}
+use Rattle.ask.proofs.Small.{early-lengths}
 use Rattle.ask.specs.Ask.{Asked, Areas, Outcome, early, startOf, questionOf, Lines, answering, Comes, AskedAs}
 use Rattle.replay.specs.declared.Verdict.{Verdict}
 use Rattle.replay.specs.declared.Verdict.the-variants.{Holds, NoStep, Denied}
@@ -27,7 +28,7 @@ use Rattle.replay.proofs.Rows.{actsOf, afterAll, allSteps, holds-run, holds-rea
 use Rattle.replay.proofs.Own.{own-steps-hold}
 use Rattle.leveecrumb.specs.declared.again.Replayed.{Replayed}
 use Rattle.leveecrumb.specs.Replaying.{Ended, telling, endedBy, endedAfter, replaying}
-use Rattle.leveecrumb.proofs.Outcomes.{earlyOf, early-lengths, settles}
+use Rattle.leveecrumb.proofs.Outcomes.{settles}
 use Rattle.leveecrumb.proofs.Replays.{EndsAs, earlyFor}
 
 -- ---- one outcome
@@ -43,8 +44,7 @@ replayed-unique text a rows store r s left kept d e = (d .0 ∙ sym (e .0), d .1
 stands : (text : List ℕ) (a : Asked) (store : List ℕ) → earlyFor text a store ≡ 0 → (P : Policy) → reading text ≡ accepted P → Loaded P (drop 16384 store) (layout P ++ drop 16384 store)
 unfolding settled
 stands text a store none P read =
-    let long = early-lengths (length text) (length store) 24576 a none in
-    let loads = settles text store (long .0) (long .1) in
+    let loads = settles text a 24576 store none in
     let l : LoadedAs text store 0 0 (layout P ++ drop 16384 store) = record { refusal = rw (loads, read); place = rw (loads, read); bytes = rw (loads, read) } in
     let (Q, again, L) = loaded-holds text store 0 (layout P ++ drop 16384 store) l in
     let same : Q ≡ P = cc in
@@ -182,7 +182,7 @@ module _ (text : List ℕ) (a : Asked) (P : Policy) (read : reading text ≡ acc
       reached zs opened (ap (λ (x : Ended). x .answer .verdict) (comes text a (recordsOf P (startOf a) zs) store none P read) ∙ ap (λ (v : Verdict). telling v .verdict) holds)
 
   -- The steps that an ask shows, as records, hold for the same text and question, over any store that is long enough.
-  pub own-hold : (lent : Areas) (o : Outcome) → AskedAs text a lent o → earlyOf text a lent ≡ 0 → (store : List ℕ) → 16384 ≤ length store
+  pub own-hold : (lent : Areas) (o : Outcome) → AskedAs text a lent o → early (length text) (length (lent .store)) (length (lent .work)) a ≡ 0 → (store : List ℕ) → 16384 ≤ length store
       → (lines : List ℕ) × (o ≡ answering 24576 P lines lent) × OwnLines text a P store lines
   own-hold lent o asked none store long =
       let answers : Comes 24576 (accepted P) a lent o = rw (none, read) at asked in

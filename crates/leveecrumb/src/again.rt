@@ -46,35 +46,19 @@ fn opening(
 ) -> Opened
     ensures { λ r. ⌜ OpenedAs (now (text .entry)) (record { uid = uid; gid = gid; start = now (start .entry); target = now (target .entry); kind = kind }) (now (store .entry)) records r (now (store .exit)) ⌝ }
 {
-    let refusal = ask::early(
-        text.len(),
-        store.len(),
-        ask::WORK,
-        start,
-        target,
-        uid,
-        gid,
-        kind,
-    );
-    if refusal != 0 {
-        return Opened {
-            number: refusal,
-            line: 0,
-            count: 0,
-        };
-    }
-    let loaded = load::load(text, store);
-    let number = loaded.number;
+    let o = crate::loaded(text, store, ask::WORK, uid, gid, start, target, kind);
+    let number = o.number;
+    let line = o.line;
     if number != 0 {
         return Opened {
             number,
-            line: loaded.line,
+            line,
             count: 0,
         };
     }
     Opened {
         number,
-        line: loaded.line,
+        line,
         count: records,
     }
 }

@@ -64,7 +64,9 @@ fn entry_of(store: &[u8], begin: &[u8], p: gran::Process) -> u8
     if fields::role_count(store) <= role {
         return gran::NONE;
     }
-    lookup::entry_in(store, role, grades_of(store, begin, p.file))
+    let g = grades_of(store, begin, p.file);
+    let of = g.of;
+    lookup::entry_in(store, role, &of)
 }
 
 // Whether four fields are 0.
@@ -146,8 +148,9 @@ fn may_run(store: &[u8], e: u8, object: u8, file: u8) -> bool
     if fields::path_count(store) <= file {
         return false;
     }
-    let grades = lookup::grades_for(store, fields::path(store, file));
-    let i = lookup::object_in(store, e, grades);
+    let g = lookup::grades_for(store, fields::path(store, file));
+    let of = g.of;
+    let i = lookup::object_in(store, e, &of);
     if fields::object_path(store, e, i) != object {
         return false;
     }
@@ -225,7 +228,9 @@ pub fn access(store: &[u8], begin: &[u8], p: gran::Process, target: &[u8], kind:
     if fields::entry_count(store) <= e {
         return false;
     }
-    let i = lookup::object_in(store, e, lookup::grades_for(store, target));
+    let g = lookup::grades_for(store, target);
+    let of = g.of;
+    let i = lookup::object_in(store, e, &of);
     let modes = gran::Modes {
         bits: fields::object_modes(store, e, i),
     };

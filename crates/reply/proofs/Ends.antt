@@ -120,8 +120,8 @@ module _ {s t area : List ℕ} {z : Sizes} {w : Progress} {start : Process} (g :
 pub ready-of : {s t : List ℕ} {z : Sizes} (a : Asked) → Held s → Tabled (policyIn s) (questionOf a) t → z ≡ sizesOf (policyIn s) → Ready (questionOf a) s t z
 ready-of a h t e = record { held = h; tabled = t; sizes = e }
 
-pub clear-of : {area : List ℕ} {n : ℕ} → area ≡ zeros n → n ≡ 24576 → Cleared area
-clear-of e h = rw (e, h) zeros-cleared
+pub clear-of : {area : List ℕ} → area ≡ zeros 24576 → Cleared area
+clear-of e = rw e zeros-cleared
 
 module _ {s t : List ℕ} {z : Sizes} (a : Asked) (r : Ready (questionOf a) s t z) (from : ℕ) (number : from ≡ stateNumber (policyIn s) (abstract (policyIn s) (startOf a))) where
   pub inside : Inside (policyIn s) (abstract (policyIn s) (startOf a))

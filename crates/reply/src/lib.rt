@@ -9,7 +9,7 @@ use numbered::Sizes;
 use walk::Progress;
 ghost use mathlib.Core.Path.{_≡_};
 ghost use Prim.Native.Nat.{_≤_};
-ghost use lib.ListN.{length};
+ghost use Rattle.lines.specs.Line.{zeros};
 ghost use Rattle.fields.specs.Fields.{policyIn};
 ghost use Rattle.records.specs.Record.{summary};
 ghost use Rattle.reply.specs.Reply.{Held, Told, Answers, Responded};
@@ -96,7 +96,7 @@ fn told(
     never(room, w.count)
 }
 
-// Answers a question about the policy in the store, on a work area of 24,576 numbers with any contents.
+// Answers a question about the policy in the store, on a work area of 24,576 numbers that are zero, and leaves them zero.
 pub fn respond(
     store: &[u8],
     area: &mut [u16],
@@ -108,14 +108,13 @@ pub fn respond(
     kind: u8,
 ) -> Answer
     requires { ⌜ Held (now store) ⌝ }
-    requires { ⌜ length (now area) ≡ 24576 ⌝ }
+    requires { ⌜ now area ≡ zeros 24576 ⌝ }
     ensures { λ r. ⌜ Responded (policyIn (now (store .entry))) (record { uid = uid; gid = gid; start = now (start .entry); target = now (target .entry); kind = kind }) (now (room .entry)) r (now (room .exit)) (now (area .exit)) ⌝ }
 {
     let mut t = no_tables();
     tables::fill(store, target, kind, &mut t);
     let z = start::sizes(store);
     let from = start::start_number(store, &t, z, uid, gid, start);
-    walk::clear(area);
     let w = walk::search(area, store, &t, z, from);
     let r = told(area, store, &t, z, w, Process::start(uid, gid), room);
     walk::wipe(area, z);

@@ -37,7 +37,8 @@ pub fn start_number(store: &[u8], t: &[u8], z: Sizes, uid: u32, gid: u32, start:
         ids::role_of(store, ids::GROUP, gid),
     ) as usize;
     let g = lookup::grades_for(store, start);
-    let path = lookup::subject_of(store, g);
+    let of = g.of;
+    let path = lookup::subject_of(store, &of);
     let subject = fields::byte(t, cell::STAND + path as usize) as usize;
     let d = Digits {
         special: 0,

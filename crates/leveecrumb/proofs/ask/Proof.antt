@@ -1,10 +1,13 @@
--- `ask` meets its contract: the first refusals, the load and the answer, each from the call that gave it.
+-- `ask` meets its contract: the load and the answer, each from the call that gave it.
 -- Assumes nothing.
-use mathlib.Core.Path.{sym}
+use mathlib.Core.Path.{sym, ap, _∙_}
+use Prim.Native.Nat.{_≤_}
+use lib.ListN.{length}
 use lib.Seq.{length-take-le}
 use borrow.Author.Needs.{needs}
+use Rattle.lines.specs.Line.{zeros}
 use Rattle.ask.specs.Ask.{Asked, Areas}
-use Rattle.leveecrumb.proofs.Outcomes.{asked-early, long-enough, asked-refused, asked-answered, holds-after}
+use Rattle.leveecrumb.proofs.Outcomes.{comes-refused, long-enough, holds-after, comes-answered}
 use Rattle.leveecrumb.proofs.ask.Statement.{statement}
 use Rattle.leveecrumb.proofs.ask.Tie as tie
 
@@ -14,32 +17,41 @@ asked s = record { uid = s .args .uid; gid = s .args .gid; start = s .args .star
 abbrev lent : tie.Start → Areas
 lent s = record { store = s .args .store .now; work = s .args .work .now; room = s .args .room .now }
 
-early-requires : tie.Need-early-requires
-early-requires c κs = search needs
+-- ---- once the text is loaded
 
-returns : tie.Need-returns
-returns c = asked-early (c .before .before .before .before .before .before .before .before .args .text .now) (asked (c .before .before .before .before .before .before .before .before)) (lent (c .before .before .before .before .before .before .before .before)) _ (c .before .early .ensures) (c .if1 .taken)
+abbrev begun : tie.Else1 → tie.Start
+begun e = e .before .before .before .before .before .before .before .before .before .before .before
 
-load-requires : tie.Need-load-requires
-load-requires c κs = search needs
+long : (e : tie.Else1) → 24576 ≤ length (lent (begun e) .work)
+long e = let s = begun e in long-enough 24576 (length (lent s .work)) (s .args .text .now) (asked s) (lent s) _ _ _ (e .before .before .before .loaded .ensures) (e .if1 .left)
+
+loaded-requires : tie.Need-loaded-requires
+loaded-requires c κs = search needs
 
 same-length : tie.Need-same-length
 same-length c = search needs
 
-returns-2 : tie.Need-returns-2
-returns-2 c = asked-refused (c .before .before .before .before .before .before .before .before .before .before .before .before .before .args .text .now) (asked (c .before .before .before .before .before .before .before .before .before .before .before .before .before)) (lent (c .before .before .before .before .before .before .before .before .before .before .before .before .before)) _ (c .before .before .before .before .before .before .early .ensures) (c .before .before .before .before .before .if1 .left) _ _ _ (c .before .before .before .load .ensures) (c .if2 .taken)
+returns : tie.Need-returns
+returns c =
+    let s = c .before .before .before .before .before .before .before .before .before .before .before in
+    comes-refused 24576 (length (lent s .work)) (s .args .text .now) (asked s) (lent s) _ _ _ (c .before .before .before .loaded .ensures) (c .if1 .taken)
 
-slice-relend-prefix-respond : tie.Need-slice-relend-prefix-respond
-slice-relend-prefix-respond c = long-enough (c .before .before .before .before .before .before .before .before .before .before .before .before .before .before .args .text .now) (asked (c .before .before .before .before .before .before .before .before .before .before .before .before .before .before)) (lent (c .before .before .before .before .before .before .before .before .before .before .before .before .before .before)) _ (c .before .before .before .before .before .before .before .early .ensures) (c .before .before .before .before .before .before .if1 .left) .2
+slice-relend-prefix-area : tie.Need-slice-relend-prefix-area
+slice-relend-prefix-area c = long c
 
-slice-aggregate-respond : tie.Need-slice-aggregate-respond
-slice-aggregate-respond c = sym (length-take-le 24576 (c .before .before .before .before .before .before .before .before .before .before .before .before .before .before .before .args .work .now) (long-enough (c .before .before .before .before .before .before .before .before .before .before .before .before .before .before .before .args .text .now) (asked (c .before .before .before .before .before .before .before .before .before .before .before .before .before .before .before)) (lent (c .before .before .before .before .before .before .before .before .before .before .before .before .before .before .before)) _ (c .before .before .before .before .before .before .before .before .early .ensures) (c .before .before .before .before .before .before .before .if1 .left) .2))
+slice-aggregate-area : tie.Need-slice-aggregate-area
+slice-aggregate-area c = sym (length-take-le 24576 (lent (begun (c .before)) .work) (long (c .before)))
+
+clear-requires : tie.Need-clear-requires
+clear-requires c κs = search needs
 
 respond-requires : tie.Need-respond-requires
-respond-requires c κs = (
-  holds-after (c .before .before .before .before .before .before .before .before .before .before .before .before .before .before .before .before .args .text .now) (c .before .before .before .before .before .before .before .before .before .before .before .before .before .before .before .before .args .store .now) _ _ (rw (c .before .before .before .if2 .left) at (c .before .before .before .before .before .before .load .ensures)),
-  length-take-le 24576 (c .before .before .before .before .before .before .before .before .before .before .before .before .before .before .before .before .args .work .now) (long-enough (c .before .before .before .before .before .before .before .before .before .before .before .before .before .before .before .before .args .text .now) (asked (c .before .before .before .before .before .before .before .before .before .before .before .before .before .before .before .before)) (lent (c .before .before .before .before .before .before .before .before .before .before .before .before .before .before .before .before)) _ (c .before .before .before .before .before .before .before .before .before .early .ensures) (c .before .before .before .before .before .before .before .before .if1 .left) .2),
-)
+respond-requires c κs =
+    let e = c .before .before .before .before .before .before .before in
+    let s = begun e in (
+      holds-after 24576 (length (lent s .work)) (s .args .text .now) (asked s) (lent s) _ _ _ (e .before .before .before .loaded .ensures) (e .if1 .left),
+      c .before .before .before .before .clear .ensures ∙ ap zeros (length-take-le 24576 (lent s .work) (long e)),
+    )
 
 same-length-2 : tie.Need-same-length-2
 same-length-2 c = search needs
@@ -50,23 +62,25 @@ same-length-3 c = search needs
 same-length-4 : tie.Need-same-length-4
 same-length-4 c = search needs
 
-returns-3 : tie.Need-returns-3
-returns-3 c =
-    asked-answered (c .before .before .before .before .before .before .before .before .before .before .before .before .before .before .before .before .before .before .before .before .before .args .text .now) (asked (c .before .before .before .before .before .before .before .before .before .before .before .before .before .before .before .before .before .before .before .before .before)) (lent (c .before .before .before .before .before .before .before .before .before .before .before .before .before .before .before .before .before .before .before .before .before)) _ (c .before .before .before .before .before .before .before .before .before .before .before .before .before .before .early .ensures) (c .before .before .before .before .before .before .before .before .before .before .before .before .before .if1 .left) _ _ (rw (c .before .before .before .before .before .before .before .before .if2 .left) at (c .before .before .before .before .before .before .before .before .before .before .before .load .ensures)) _ _ _ (c .before .before .before .before .respond .ensures)
+returns-2 : tie.Need-returns-2
+returns-2 c =
+    let e = c .before .before .before .before .before .before .before .before .before .before .before .before in
+    let s = begun e in
+    let d = c .before .before .before .before .respond .ensures in
+    comes-answered 24576 (length (lent s .work)) (s .args .text .now) (asked s) (lent s) _ _ _ (e .before .before .before .loaded .ensures) (e .if1 .left) _ _ _ _ (d .cleared) d
 
 pub ask-spec : {M : Type 1} → statement M
 ask-spec =
     tie.close
     (tie.spec
-    early-requires
-    returns
-    load-requires
+    loaded-requires
     same-length
-    returns-2
-    slice-relend-prefix-respond
-    slice-aggregate-respond
+    returns
+    slice-relend-prefix-area
+    slice-aggregate-area
+    clear-requires
     respond-requires
     same-length-2
     same-length-3
     same-length-4
-    returns-3)
+    returns-2)

@@ -27,6 +27,9 @@ returns c P rest L =
 grades-for-requires : tie.Need-grades-for-requires
 grades-for-requires c κs = search needs
 
+slice-aggregate-object-in : tie.Need-slice-aggregate-object-in
+slice-aggregate-object-in c = search needs
+
 object-in-requires : tie.Need-object-in-requires
 object-in-requires c κs = search needs
 
@@ -39,9 +42,9 @@ grants-requires c κs = search needs
 returns-2 : tie.Need-returns-2
 unfolding access grants
 returns-2 c P rest L =
-    let known : c .before .before .before .before .before .before .entry-of .result < length (P .entries) = omega (arith, c .before .before .before .before .if1 .left, c .before .before .before .before .before .entry-count .ensures, entry-count L) in
-    let placed = c .before .before .object-in .ensures P rest _ L (c .before .before .before .grades-for .ensures P rest L) known in
-    rw (← c .before .before .before .before .before .before .entry-of .ensures P rest L, ← object-modes-is L known placed, ← c .before .object-modes .ensures) (c .grants .ensures)
+    let known : c .before .before .before .before .before .before .before .before .entry-of .result < length (P .entries) = omega (arith, c .before .before .before .before .before .before .if1 .left, c .before .before .before .before .before .before .before .entry-count .ensures, entry-count L) in
+    let placed = c .before .before .object-in .ensures P rest _ L (c .before .before .before .before .before .grades-for .ensures P rest L) known in
+    rw (← c .before .before .before .before .before .before .before .before .entry-of .ensures P rest L, ← object-modes-is L known placed, ← c .before .object-modes .ensures) (c .grants .ensures)
 
 pub access-spec : {M : Type 1} → statement M
 access-spec =
@@ -51,6 +54,7 @@ access-spec =
     entry-count-requires
     returns
     grades-for-requires
+    slice-aggregate-object-in
     object-in-requires
     object-modes-requires
     grants-requires

@@ -27,14 +27,17 @@ returns c P rest L =
 grades-of-requires : tie.Need-grades-of-requires
 grades-of-requires c κs = search needs
 
+slice-aggregate-entry-in : tie.Need-slice-aggregate-entry-in
+slice-aggregate-entry-in c = search needs
+
 entry-in-requires : tie.Need-entry-in-requires
 entry-in-requires c κs = search needs
 
 returns-2 : tie.Need-returns-2
 unfolding entry role stateOf
 returns-2 c P rest L =
-    let known : c .before .before .before .before .role-of .result < length (P .roles) = omega (arith, c .before .before .if1 .left, c .before .before .before .role-count .ensures, role-count L) in
-    rw (← c .before .before .before .before .role-of .ensures P rest L) (c .entry-in .ensures P rest _ L (c .before .grades-of .ensures P rest L) known .is)
+    let known : c .before .before .before .before .before .before .role-of .result < length (P .roles) = omega (arith, c .before .before .before .before .if1 .left, c .before .before .before .before .before .role-count .ensures, role-count L) in
+    rw (← c .before .before .before .before .before .before .role-of .ensures P rest L) (c .entry-in .ensures P rest _ L (c .before .before .before .grades-of .ensures P rest L) known .is)
 
 pub entry-of-spec : {M : Type 1} → statement M
 entry-of-spec =
@@ -44,5 +47,6 @@ entry-of-spec =
     role-count-requires
     returns
     grades-of-requires
+    slice-aggregate-entry-in
     entry-in-requires
     returns-2)

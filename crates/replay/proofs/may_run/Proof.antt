@@ -30,6 +30,9 @@ path-requires c κs = search needs
 grades-for-requires : tie.Need-grades-for-requires
 grades-for-requires c κs = search needs
 
+slice-aggregate-object-in : tie.Need-slice-aggregate-object-in
+slice-aggregate-object-in c = search needs
+
 object-in-requires : tie.Need-object-in-requires
 object-in-requires c κs = search needs
 
@@ -38,10 +41,10 @@ object-path-requires c κs = search needs
 
 returns-2 : tie.Need-returns-2
 returns-2 c P rest L known =
-    let A = c .before .before .before .before .before .before .before .before .args in
-    let inside : A .file < length (P .paths) = omega (arith, c .before .before .before .before .before .if1 .left, c .before .before .before .before .before .before .path-count .ensures, path-count L) in
-    let graded : Graded P (pathAt (P .paths) (A .file)) (c .before .before .before .grades-for .result .of) =
-    subst (λ (f : List ℕ). Graded P f (c .before .before .before .grades-for .result .of)) (c .before .before .before .before .path .ensures ∙ path-read L (A .file)) (c .before .before .before .grades-for .ensures P rest L) in
+    let A = c .before .before .before .before .before .before .before .before .before .before .args in
+    let inside : A .file < length (P .paths) = omega (arith, c .before .before .before .before .before .before .before .if1 .left, c .before .before .before .before .before .before .before .before .path-count .ensures, path-count L) in
+    let graded : Graded P (pathAt (P .paths) (A .file)) (c .before .before .before .before .before .grades-for .result .of) =
+    subst (λ (f : List ℕ). Graded P f (c .before .before .before .before .before .grades-for .result .of)) (c .before .before .before .before .before .before .path .ensures ∙ path-read L (A .file)) (c .before .before .before .before .before .grades-for .ensures P rest L) in
     let placed = c .before .before .object-in .ensures P rest (pathAt (P .paths) (A .file)) L graded known in
     rw (lt-ltb _ _ inside, ← object-path-is L known placed, ← c .before .object-path .ensures, ne-eqb _ _ (λ e. c .if2 .taken (sym e)))
 
@@ -53,10 +56,10 @@ executable-requires c κs = search needs
 
 returns-3 : tie.Need-returns-3
 returns-3 c P rest L known =
-    let A = c .before .before .before .before .before .before .before .before .before .before .args in
-    let inside : A .file < length (P .paths) = omega (arith, c .before .before .before .before .before .before .before .if1 .left, c .before .before .before .before .before .before .before .before .path-count .ensures, path-count L) in
-    let graded : Graded P (pathAt (P .paths) (A .file)) (c .before .before .before .before .before .grades-for .result .of) =
-    subst (λ (f : List ℕ). Graded P f (c .before .before .before .before .before .grades-for .result .of)) (c .before .before .before .before .before .before .path .ensures ∙ path-read L (A .file)) (c .before .before .before .before .before .grades-for .ensures P rest L) in
+    let A = c .before .before .before .before .before .before .before .before .before .before .before .before .args in
+    let inside : A .file < length (P .paths) = omega (arith, c .before .before .before .before .before .before .before .before .before .if1 .left, c .before .before .before .before .before .before .before .before .before .before .path-count .ensures, path-count L) in
+    let graded : Graded P (pathAt (P .paths) (A .file)) (c .before .before .before .before .before .before .before .grades-for .result .of) =
+    subst (λ (f : List ℕ). Graded P f (c .before .before .before .before .before .before .before .grades-for .result .of)) (c .before .before .before .before .before .before .before .before .path .ensures ∙ path-read L (A .file)) (c .before .before .before .before .before .before .before .grades-for .ensures P rest L) in
     let placed = c .before .before .before .before .object-in .ensures P rest (pathAt (P .paths) (A .file)) L graded known in
     rw (
       lt-ltb _ _ inside,
@@ -75,6 +78,7 @@ may-run-spec =
     returns
     path-requires
     grades-for-requires
+    slice-aggregate-object-in
     object-in-requires
     object-path-requires
     returns-2

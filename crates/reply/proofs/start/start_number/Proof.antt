@@ -14,16 +14,16 @@ use Rattle.reply.proofs.start.start_number.Statement.{statement}
 use Rattle.reply.proofs.start.start_number.Tie as tie
 
 -- What is read are the start's places.
-digits : (c : tie.After-byte) → let s = c .before .before .before .before .before .before .before .before .before .before .before .before .before .before in
-    record { special = 0; user = c .before .before .before .before .before .before .place-in .result; group = c .before .before .before .place-in2 .result; subject = c .byte .result }
+digits : (c : tie.After-byte) → let s = c .before .before .before .before .before .before .before .before .before .before .before .before .before .before .before .before in
+    record { special = 0; user = c .before .before .before .before .before .before .before .before .place-in .result; group = c .before .before .before .before .before .place-in2 .result; subject = c .byte .result }
     ≡ placesOf (policyIn (s .args .store .now)) (abstract (policyIn (s .args .store .now)) (Real.start (s .args .uid) (s .args .gid) (s .args .start .now)))
 digits c =
-    let s = c .before .before .before .before .before .before .before .before .before .before .before .before .before .before in
+    let s = c .before .before .before .before .before .before .before .before .before .before .before .before .before .before .before .before in
     let r = s .pre .1 in
     let L = r .held in
     start-digits r (s .args .uid) (s .args .gid) (s .args .start .now) _ _ _ _ _ _
-    (c .before .before .before .before .before .before .place-in .ensures) (c .before .before .before .before .before .before .before .role-of .ensures _ _ L) (c .before .before .before .place-in2 .ensures) (c .before .before .before .before .role-of2 .ensures _ _ L)
-    (c .byte .ensures) (c .before .subject-of .ensures _ _ _ L (c .before .before .grades-for .ensures _ _ L))
+    (c .before .before .before .before .before .before .before .before .place-in .ensures) (c .before .before .before .before .before .before .before .before .before .role-of .ensures _ _ L) (c .before .before .before .before .before .place-in2 .ensures) (c .before .before .before .before .before .before .role-of2 .ensures _ _ L)
+    (c .byte .ensures) (c .before .subject-of .ensures _ _ _ L (c .before .before .before .before .grades-for .ensures _ _ L))
 
 add-users : tie.Need-add-users
 add-users c = omega (arith, ready-sized (c .before .before .before .before .pre .1) .users .1)
@@ -70,6 +70,9 @@ cast-group c = search needs
 grades-for-requires : tie.Need-grades-for-requires
 grades-for-requires c κs = search needs
 
+slice-aggregate-subject-of : tie.Need-slice-aggregate-subject-of
+slice-aggregate-subject-of c = search needs
+
 subject-of-requires : tie.Need-subject-of-requires
 subject-of-requires c κs = search needs
 
@@ -87,14 +90,14 @@ cast-subject c = search needs
 
 number-requires : tie.Need-number-requires
 number-requires c κs =
-    let s = c .before .before .before .before .before .before .before .before .before .before .before .before .before .before in
+    let s = c .before .before .before .before .before .before .before .before .before .before .before .before .before .before .before .before in
     let P = policyIn (s .args .store .now) in
     let r = s .pre .1 in
     (ready-sized r, rw (digits c, r .sizes) (places-among P (abstract P (Real.start (s .args .uid) (s .args .gid) (s .args .start .now))) (start-inside r (s .args .uid) (s .args .gid) (s .args .start .now))))
 
 returns : tie.Need-returns
 unfolding stateNumber
-returns c = c .number .ensures ∙ rw (digits (c .before), c .before .before .before .before .before .before .before .before .before .before .before .before .before .before .before .pre .1 .sizes)
+returns c = c .number .ensures ∙ rw (digits (c .before), c .before .before .before .before .before .before .before .before .before .before .before .before .before .before .before .before .before .pre .1 .sizes)
 
 pub start-number-spec : {M : Type 1} → statement M
 start-number-spec =
@@ -115,6 +118,7 @@ start-number-spec =
     place-in-requires-2
     cast-group
     grades-for-requires
+    slice-aggregate-subject-of
     subject-of-requires
     cast-byte
     add-byte
