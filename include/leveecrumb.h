@@ -178,7 +178,7 @@ extern "C" {
  *
  * Store and work area keep everything behind those bytes. The loaded policy's layout is in docs/LAYOUT.md.
  *
- * The result has the number above bit 32 and the value below it: LEVEECRUMB_NUMBER, LEVEECRUMB_VALUE.
+ * The result has the number in its upper 32 bits and the value in its lower 32: LEVEECRUMB_NUMBER, LEVEECRUMB_VALUE.
  */
 uint64_t leveecrumb_ask(const uint8_t *text, size_t text_length,
                         uint8_t *store, size_t store_length,

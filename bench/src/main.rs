@@ -1,7 +1,7 @@
-//! Prints, for each policy, the nanoseconds of processor time that a load with its ask takes: the proved library through its door
-//! for C, the second program with the same lent areas, and how many times the second's time the library takes.
-//! `bench NAME` runs the policies whose name has that word; `bench NAME library` asks the library alone, for a
-//! profiler.
+//! Prints, for each policy, the nanoseconds of processor time that an ask takes, its load included: the proved
+//! library through its door for C, the second program with the same lent areas, and how many times the second's
+//! time the library takes. `bench NAME` runs the policies whose name has that word; `bench NAME library` prints
+//! no times and asks the library for about a second, for a profiler.
 
 mod clock;
 mod policies;

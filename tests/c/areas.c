@@ -1,11 +1,9 @@
-/* The call from C and C++: at each outcome its number, and every byte of the lent areas, with some behind the named parts. */
+/* The ask from C and C++: at each outcome its number, and every byte of the lent areas, with some behind the named parts. */
 #include <stdio.h>
 #include <string.h>
 
+#include "expect.h"
 #include "leveecrumb.h"
-
-#define BEHIND 8
-#define FILL 7
 
 static const char ANSWER[] = "800100040002\n8103\n840303000003ec00000068\n";
 
@@ -14,23 +12,6 @@ static uint8_t store[LEVEECRUMB_STORE_LEAST + BEHIND];
 static uint8_t bytes[LEVEECRUMB_WORK_LEAST + BEHIND + 1];
 static uint8_t *const work = bytes + 1; /* at an odd address */
 static uint8_t room[64];
-static int wrong = 0;
-
-static int all(const uint8_t *from, const uint8_t *to, uint8_t byte)
-{
-    for (; from < to; from++)
-        if (*from != byte)
-            return 0;
-    return 1;
-}
-
-static void expect(const char *name, const char *what, int holds)
-{
-    if (!holds) {
-        printf("%s: %s\n", name, what);
-        wrong = 1;
-    }
-}
 
 /* Lengths of what is lent, and the result that is expected. */
 static void ask(const char *name, size_t text_length, size_t store_length, size_t work_length, size_t room_length, uint8_t kind, uint32_t number, uint32_t value)

@@ -1,12 +1,9 @@
 /* The replay and the last file's path from C and C++: what they hand back, every byte of the store, and how the structs lie in memory. */
 #include <stddef.h>
-#include <stdio.h>
 #include <string.h>
 
+#include "expect.h"
 #include "leveecrumb.h"
-
-#define BEHIND 8
-#define FILL 7
 
 /* ---- the structs, as the library has them ---- */
 
@@ -118,27 +115,10 @@ static const struct replay REPLAYS[] = {
 };
 
 static uint8_t store[LEVEECRUMB_STORE_LEAST + BEHIND];
-static int wrong = 0;
 
 static const uint8_t *bytes(const char *words)
 {
     return (const uint8_t *)words;
-}
-
-static int all(const uint8_t *from, const uint8_t *to, uint8_t byte)
-{
-    for (; from < to; from++)
-        if (*from != byte)
-            return 0;
-    return 1;
-}
-
-static void expect(const char *name, const char *what, int holds)
-{
-    if (!holds) {
-        printf("%s: %s\n", name, what);
-        wrong = 1;
-    }
 }
 
 /* The last file by its number: the whole start for 255, else a part of the store with this path's bytes; an empty one is in front. */

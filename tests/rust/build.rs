@@ -10,7 +10,7 @@ fn main() {
         Some(path) => PathBuf::from(path),
         None => manifest.join("../../target/staticlib/libleveecrumb.a"),
     };
-    // Said here, because the linker would only speak of missing symbols.
+    // Said here, because the compiler's own message does not tell how to write it.
     if !archive.is_file() {
         eprintln!(
             "{} is not there: `rt staticlib leveecrumb` writes it",

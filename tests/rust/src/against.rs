@@ -40,7 +40,7 @@ fn same(good: bool, part: &str) -> Result<(), String> {
     }
 }
 
-/// What is left in front of a store: the policy; or nothing of ours, or zeros, by the refusal.
+/// What a call writes in front of a store: the policy; under refusals 1 to 6 nothing, under others zeros.
 fn front(left: Result<&Policy, &Refusal>) -> Vec<u8> {
     match left {
         Ok(policy) => layout(policy),
@@ -69,15 +69,8 @@ pub fn ask_weighed(
     let mut store = Area::new(lengths.store);
     let mut work = Area::new(lengths.work);
     let mut room = Area::new(lengths.room);
-    let Question {
-        uid,
-        gid,
-        start,
-        target,
-        kind,
-    } = *question;
-    let (s, w, r) = (store.lent(), work.lent(), room.lent());
-    let answer = door::ask(text, s, w, r, uid, gid, start, target, kind);
+    let (s, w, r, q) = (store.lent(), work.lent(), room.lent(), question);
+    let answer = door::ask(text, s, w, r, q.uid, q.gid, q.start, q.target, q.kind);
     if (answer.number, answer.value) != (outcome.number.into(), outcome.value) {
         return Err(format!("the library says {answer:?}, not {outcome:?}"));
     }
@@ -156,14 +149,8 @@ pub fn replay(
 ) -> Result<Replayed, String> {
     let expected = replay::replay(text, store_len, question, steps);
     let mut store = Area::new(store_len);
-    let Question {
-        uid,
-        gid,
-        start,
-        target,
-        kind,
-    } = *question;
-    let got = door::replay(text, store.lent(), uid, gid, start, target, kind, steps);
+    let (s, q) = (store.lent(), question);
+    let got = door::replay(text, s, q.uid, q.gid, q.start, q.target, q.kind, steps);
     if got != returned(&expected) {
         return Err(format!("the library says {got:?}, not {expected:?}"));
     }
@@ -174,7 +161,7 @@ pub fn replay(
     let kept = front(loaded.as_ref());
     same(store.holds(&kept), "store")?;
     if let (Replayed::Holds(_), Ok(policy)) = (expected, &loaded) {
-        last_of_row(policy, start, store.lent(), steps, got.file)?;
+        last_of_row(policy, question.start, store.lent(), steps, got.file)?;
     }
     Ok(expected)
 }

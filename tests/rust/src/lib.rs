@@ -4,7 +4,8 @@
 //! model worked out into arrays, `search` goes over them; `ask` and `replay` are the calls, `layout` is what
 //! they leave in a store, `pathcheck` is the program. `plain` and `finite` check the search in two further ways.
 //! `door` calls the proved library, over `lent` areas; `against` holds it to the calls above.
-//! `frames`, `load_cases`, `large`, `clock` and, with `random` numbers, `generator` make texts, `samples` whole inputs of the program.
+//! `frames`, `load_cases`, `large`, `clock` and, with `random` numbers, `generator` make texts, `samples` whole
+//! inputs of the program.
 
 pub mod against;
 pub mod ask;

@@ -2,7 +2,7 @@
 
 use crate::ask::{Question, EXECUTE, SET_GROUP, SET_USER, STORE_LEAST, TAKE_SPECIAL, TEXT_MOST};
 use crate::layout;
-use crate::model::{access, object_for, step, Move, Real};
+use crate::model::{self, access, object_for, Move, Real};
 use crate::policy::{load, Policy, Refusal};
 
 /// No role, no file.
@@ -21,6 +21,21 @@ pub struct Step {
     pub file: u8,
 }
 
+/// A step record with these fields.
+pub const fn step(kind: u8, role: u8, uid: u32, gid: u32, object: u8, file: u8) -> Step {
+    Step {
+        kind,
+        role,
+        uid,
+        gid,
+        object,
+        file,
+    }
+}
+
+/// Leaves the special role.
+pub const LEAVE: Step = step(TAKE_SPECIAL, NONE, 0, 0, 0, 0);
+
 #[derive(Clone, Copy, Debug, PartialEq, Eq)]
 pub enum Replayed {
     Refused(Refusal),
@@ -33,30 +48,11 @@ pub enum Replayed {
 
 /// One record from a state: the state after it, if it is a real step.
 pub fn step_record<'a>(policy: &'a Policy, state: Real<'a>, record: &Step) -> Option<Real<'a>> {
-    let Step {
-        kind,
-        role,
-        uid,
-        gid,
-        object,
-        file,
-    } = *record;
+    let (kind, role, uid, gid) = (record.kind, record.role, record.uid, record.gid);
     let used = match kind {
-        TAKE_SPECIAL => Step {
-            kind,
-            role,
-            ..Step::default()
-        },
-        SET_USER => Step {
-            kind,
-            uid,
-            ..Step::default()
-        },
-        SET_GROUP => Step {
-            kind,
-            gid,
-            ..Step::default()
-        },
+        TAKE_SPECIAL => step(kind, role, 0, 0, 0, 0),
+        SET_USER => step(kind, 0, uid, 0, 0, 0),
+        SET_GROUP => step(kind, 0, 0, gid, 0, 0),
         EXECUTE => Step { role: 0, ..*record },
         _ => return None,
     };
@@ -68,20 +64,16 @@ pub fn step_record<'a>(policy: &'a Policy, state: Real<'a>, record: &Step) -> Op
         SET_USER => Move::SetUser(uid),
         SET_GROUP => Move::SetGroup(gid),
         _ => {
-            let path = policy.paths.get(file as usize)?.bytes();
+            let file = policy.paths.get(record.file as usize)?.bytes();
             let entry = state.entry(policy);
-            let own = policy.objects(entry)[object_for(policy, entry, path)];
-            if own.path != object {
+            let own = policy.objects(entry)[object_for(policy, entry, file)];
+            if own.path != record.object {
                 return None;
             }
-            Move::Exec {
-                file: path,
-                uid,
-                gid,
-            }
+            Move::Exec { file, uid, gid }
         }
     };
-    step(policy, state, what)
+    model::step(policy, state, what)
 }
 
 /// Replay of records in an accepted policy.

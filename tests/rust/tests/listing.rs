@@ -59,6 +59,15 @@ fn run(input: &[u8]) -> String {
     String::from_utf8(output.stdout).unwrap()
 }
 
+/// The two files that a program writes.
+fn written(program: &str, names: [&str; 2]) -> [Vec<u8>; 2] {
+    let folder = std::path::Path::new(env!("CARGO_TARGET_TMPDIR"));
+    let files = names.map(|name| folder.join(name));
+    let status = Command::new(program).args(&files).status().unwrap();
+    assert!(status.success());
+    files.map(|file| std::fs::read(file).unwrap())
+}
+
 fn run_with(question: &str, policy: &str) -> String {
     run(format!("{question}{policy}").as_bytes())
 }
@@ -181,18 +190,9 @@ fn load_cases_as_worked_out_by_hand() {
 /// The files that the row of load cases is written to.
 #[test]
 fn load_cases_in_files() {
-    let folder = std::path::Path::new(env!("CARGO_TARGET_TMPDIR"));
-    let (container, expected) = (folder.join("container"), folder.join("expected"));
-    let mut program = Command::new(env!("CARGO_BIN_EXE_loads"));
-    assert!(program
-        .args([&container, &expected])
-        .status()
-        .unwrap()
-        .success());
-    let (texts, pairs) = (
-        std::fs::read(container).unwrap(),
-        std::fs::read_to_string(expected).unwrap(),
-    );
+    let names = ["container", "expected"];
+    let [texts, pairs] = written(env!("CARGO_BIN_EXE_loads"), names);
+    let pairs = String::from_utf8(pairs).unwrap();
     let mut rest = texts.as_slice();
     let mut pairs = pairs.lines();
     for case in second::load_cases::cases() {
@@ -206,22 +206,16 @@ fn load_cases_in_files() {
     assert!(rest.is_empty() && pairs.next().is_none());
 }
 
-/// The stored row of inputs and what is printed for them are what the samples give, and Rattle's program reads all of it.
+/// The stored row of inputs and what is printed for them are what the samples give, and Rattle's program reads
+/// all of it.
 #[test]
 fn samples_as_stored() {
-    let folder = std::path::Path::new(env!("CARGO_TARGET_TMPDIR"));
-    let (inputs, outputs) = (folder.join("inputs"), folder.join("outputs"));
-    let mut program = Command::new(env!("CARGO_BIN_EXE_samples"));
-    assert!(program
-        .args([&inputs, &outputs])
-        .status()
-        .unwrap()
-        .success());
+    let names = ["inputs", "outputs"];
+    let [inputs, outputs] = written(env!("CARGO_BIN_EXE_samples"), names);
     let stored = std::path::Path::new(env!("CARGO_MANIFEST_DIR")).join("../../crates/sample");
-    let inputs = std::fs::read(inputs).unwrap();
     assert!(inputs.len() <= 131_072);
     assert!(inputs == std::fs::read(stored.join("stdin")).unwrap());
-    assert!(std::fs::read(outputs).unwrap() == std::fs::read(stored.join("stdout")).unwrap());
+    assert!(outputs == std::fs::read(stored.join("stdout")).unwrap());
 }
 
 #[test]

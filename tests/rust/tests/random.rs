@@ -36,7 +36,8 @@ fn asked(case: &Case, room: usize) -> second::ask::Outcome {
     )
 }
 
-/// The ask's own steps hold in replay, the last file is the last one run, and no room is short by a byte.
+/// The ask's own steps hold in replay, the last file is the last one run, and the answer fits a room of its
+/// length, but none that is a byte shorter.
 #[test]
 fn own_steps_hold() {
     let mut random = Random::new(1);
@@ -182,7 +183,7 @@ fn tables_are_the_model() {
     }
 }
 
-/// A second reading of "real step", record by record, over tables that hold no abstract step.
+/// A second reading of "real step", record by record, without `model`.
 fn walk_again(policy: &Policy, question: &Question, steps: &[Step]) -> Replayed {
     let role_of = |kind, id| {
         policy

@@ -4,18 +4,7 @@ use second::ask::{Question, STORE_LEAST, TEXT_MOST};
 use second::frames::{ended, entry, form, gid, object, path, role, text, uid};
 use second::load_cases::LISTING;
 use second::policy::Refusal;
-use second::replay::{replay, Replayed, Step};
-
-fn step(kind: u8, role: u8, uid: u32, gid: u32, object: u8, file: u8) -> Step {
-    Step {
-        kind,
-        role,
-        uid,
-        gid,
-        object,
-        file,
-    }
-}
+use second::replay::{replay, step, Replayed, Step, LEAVE};
 
 fn of_listing(kind: u8) -> Question<'static> {
     Question {
@@ -32,7 +21,6 @@ fn replays_of_the_listing() {
     let replayed =
         |kind, steps: &[Step]| replay(LISTING.as_bytes(), STORE_LEAST, &of_listing(kind), steps);
     let take = step(0x81, 2, 0, 0, 0, 0);
-    let leave = step(0x81, 255, 0, 0, 0, 0);
     let run = step(0x84, 0, 1000, 100, 1, 1);
     use Replayed::{Holds, NoStep, NotGranted};
     assert_eq!(replayed(1, &[take, run]), Holds(1));
@@ -40,10 +28,10 @@ fn replays_of_the_listing() {
     assert_eq!(replayed(1, &[]), NotGranted);
     assert_eq!(replayed(1, &[take]), NotGranted);
     assert_eq!(replayed(1, &[run]), NoStep(0));
-    assert_eq!(replayed(1, &[take, run, leave]), NotGranted);
-    assert_eq!(replayed(1, &[take, run, leave, take]), Holds(1));
+    assert_eq!(replayed(1, &[take, run, LEAVE]), NotGranted);
+    assert_eq!(replayed(1, &[take, run, LEAVE, take]), Holds(1));
     // No special role is always a step, also from none.
-    assert_eq!(replayed(1, &[leave, leave, take, run]), Holds(1));
+    assert_eq!(replayed(1, &[LEAVE, LEAVE, take, run]), Holds(1));
     // The special role may not take itself, and the program that runs /bin/ may not run it again.
     assert_eq!(replayed(1, &[take, take, run]), NoStep(1));
     assert_eq!(replayed(1, &[take, run, run]), NoStep(2));
@@ -64,7 +52,7 @@ fn replays_of_the_listing() {
         step(0x83, 0, 0, 100, 0, 0),
     ] {
         assert_eq!(replayed(1, &[bad, take, run]), NoStep(0), "{bad:?}");
-        assert_eq!(replayed(1, &[leave, bad]), NoStep(1), "{bad:?}");
+        assert_eq!(replayed(1, &[LEAVE, bad]), NoStep(1), "{bad:?}");
     }
     for bad in [
         step(0x84, 2, 1000, 100, 1, 1),

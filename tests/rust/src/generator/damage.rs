@@ -3,7 +3,7 @@
 use crate::frames::{self, Frame};
 use crate::policy::{END, NOBODY};
 use crate::random::Random;
-use crate::replay::Step;
+use crate::replay::{Step, LEAVE};
 
 /// Damage to a policy: frames dropped, doubled, swapped, moved, one more of a kind, bytes and lengths changed, a
 /// wrong count, and damage to the text itself. In half of the cases the count is right again, so that other
@@ -75,11 +75,7 @@ pub fn damage_steps(random: &mut Random, steps: &[Step]) -> Vec<Step> {
         6 => steps[at].gid = random.pick(&[0, 1, 4, 7, 1000, NOBODY - 1, NOBODY]),
         7 => steps[at].object = random.pick(&[0, 1, 2, 3, 96, 255]),
         8 => steps[at].file = random.pick(&[0, 1, 2, 3, 96, 255]),
-        _ => steps.push(Step {
-            kind: 0x81,
-            role: 255,
-            ..Step::default()
-        }),
+        _ => steps.push(LEAVE),
     }
     steps
 }

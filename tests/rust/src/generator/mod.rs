@@ -14,7 +14,7 @@ use crate::frames::{self, Frame};
 use crate::random::Random;
 use draft::{near, Draft};
 
-/// How large a policy becomes. Small ones suit the finite search; the other two go up to what the tables hold.
+/// How large a policy becomes. Small ones suit the finite search; the last two go up to what the tables hold.
 #[derive(Clone, Copy, Debug, PartialEq, Eq)]
 pub enum Size {
     Small,

@@ -4,7 +4,7 @@ use crate::ask::{Question, EXECUTE, SET_GROUP, SET_USER, TAKE_SPECIAL};
 use crate::model::{object_for, Real};
 use crate::policy::{Ids, Kind, Policy, NOBODY};
 use crate::random::Random;
-use crate::replay::{step_record, Step, NONE};
+use crate::replay::{step, step_record, Step, LEAVE, NONE};
 
 /// Draws per record: the first that is a real step is taken.
 const DRAWS: usize = 8;
@@ -24,7 +24,6 @@ fn id(random: &mut Random, policy: &Policy, kind: Kind, ids: &Ids, held: u32) ->
 fn drawn(random: &mut Random, policy: &Policy, state: &Real) -> Step {
     let number = state.entry(policy);
     let entry = &policy.entries[number];
-    let none = Step::default();
     let uid = id(random, policy, Kind::User, &entry.users, state.uid);
     let gid = id(random, policy, Kind::Group, &entry.groups, state.gid);
     match random.below(8) {
@@ -35,31 +34,16 @@ fn drawn(random: &mut Random, policy: &Policy, state: &Real) -> Step {
                 1..=5 if !specials.is_empty() => random.pick(&specials),
                 _ => NONE,
             };
-            let kind = TAKE_SPECIAL;
-            Step { kind, role, ..none }
+            step(TAKE_SPECIAL, role, 0, 0, 0, 0)
         }
-        2 => Step {
-            kind: SET_USER,
-            uid,
-            ..none
-        },
-        3 => Step {
-            kind: SET_GROUP,
-            gid,
-            ..none
-        },
+        2 => step(SET_USER, 0, uid, 0, 0, 0),
+        3 => step(SET_GROUP, 0, 0, gid, 0, 0),
         _ => {
             let file = random.below(policy.paths.len()) as u8;
             let place = object_for(policy, number, policy.path(file));
             let own = policy.objects(number)[place].path;
-            Step {
-                kind: EXECUTE,
-                role: 0,
-                uid,
-                gid,
-                object: if random.chance(97) { own } else { file },
-                file,
-            }
+            let object = if random.chance(97) { own } else { file };
+            step(EXECUTE, 0, uid, gid, object, file)
         }
     }
 }
@@ -78,16 +62,10 @@ pub fn row(
         gid: question.gid,
         file: question.start,
     };
-    // Leaving the special role is always a step.
-    let leave = Step {
-        kind: TAKE_SPECIAL,
-        role: NONE,
-        ..Step::default()
-    };
     let mut steps = Vec::with_capacity(len);
     for _ in 0..len {
         let draws = if random.below(1000) < bad { 1 } else { DRAWS };
-        let mut record = leave;
+        let mut record = LEAVE;
         for _ in 0..draws {
             record = drawn(random, policy, &state);
             if step_record(policy, state, &record).is_some() {
@@ -95,7 +73,8 @@ pub fn row(
             }
         }
         if draws == DRAWS && step_record(policy, state, &record).is_none() {
-            record = leave;
+            // Leaving the special role is always a step.
+            record = LEAVE;
         }
         steps.push(record);
         match step_record(policy, state, &record) {

@@ -89,33 +89,25 @@ pub(super) fn types_and_lengths(c: &mut Cases) {
     c.after(&SMALL, 5, &["44"], 8, 6);
 }
 
+/// A frame of each type that stands between the first and the last.
+const BETWEEN: [&str; 7] = [
+    "102d00000000",
+    "202f",
+    "300000",
+    "400000000101",
+    "410001",
+    "4200000001",
+    "4300000001",
+];
+
 /// Refusal 9: the order.
 pub(super) fn order(c: &mut Cases) {
-    for bad in [
-        "102d00000000",
-        "202f",
-        "300000",
-        "400000000101",
-        "410001",
-        "4200000001",
-        "4300000001",
-        "7f0000",
-    ] {
+    for bad in BETWEEN.into_iter().chain(["7f0000"]) {
         c.line(&SMALL, 1, bad, 9, 1);
         c.add("one frame out of order", lines(&[bad]), 9, 1);
     }
-    for bad in [
-        "0101",
-        "102d00000000",
-        "202f",
-        "300000",
-        "400000000101",
-        "410001",
-        "4200000001",
-        "4300000001",
-        "7f0005",
-        "7f0006",
-    ] {
+    let ends = ["7f0005", "7f0006"];
+    for bad in ["0101"].into_iter().chain(BETWEEN).chain(ends) {
         c.after(&SMALL, 6, &[bad], 9, 7);
     }
     c.after(&SMALL, 1, &["0101"], 9, 2);

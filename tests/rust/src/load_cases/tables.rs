@@ -6,7 +6,7 @@ use crate::large::{many_objects, many_roles, many_states, wide};
 
 /// Refusal 11: a second.
 pub(super) fn seconds(c: &mut Cases) {
-    // Last lines.
+    // In the last line.
     c.after(&SMALL, 2, &["102d00000000"], 11, 3);
     c.after(&SMALL, 2, &["107500000001", "107500000001"], 11, 4);
     c.after(&SMALL, 2, &["106700000001", "106700000001"], 11, 4);
@@ -145,7 +145,7 @@ fn full_and_second(c: &mut Cases) {
         10,
     );
     add("one more user role", &users[..17], role(b'u', 15), 12);
-    add("a group role still", &users[..17], role(b'x', 15), 10);
+    add("a role of no kind", &users[..17], role(b'x', 15), 10);
     let groups = many_roles(b'g', 7);
     add("a group role again", &groups[..9], role(b'g', 0), 11);
     let paths = wide(96, 0);

@@ -1,6 +1,6 @@
 //! The last file's path through the door: a part of the start, or of the store, whatever its bytes are.
 
-use crate::runs::{all_kinds, step, ASKED, LEAVE, RUN};
+use crate::runs::{all_kinds, ASKED, RUN};
 use crate::samples::{cases_of_texts, QUESTION};
 use second::against::{last_file, replay};
 use second::ask::{Question, STORE_LEAST};
@@ -9,7 +9,7 @@ use second::generator::{case, row, Size};
 use second::load_cases::LISTING;
 use second::policy::{load, Policy};
 use second::random::Random;
-use second::replay::{Replayed, Step, NONE};
+use second::replay::{step, Replayed, Step, LEAVE, NONE};
 
 /// The store's places that docs/LAYOUT.md names.
 const COUNT: usize = 2;

@@ -1,6 +1,6 @@
 //! The replay through the door.
 
-use crate::runs::{all_kinds, step, ASKED, LEAVE, RUN};
+use crate::runs::{all_kinds, ASKED, RUN};
 use crate::samples::{cases_of_texts, with_faults, Sample, QUESTION};
 use second::against::{replay, WORK_BYTES};
 use second::ask::{steps_of, weigh, Question, STORE_LEAST, WORK_LEAST};
@@ -11,7 +11,7 @@ use second::generator::{case, Size};
 use second::load_cases::LISTING;
 use second::policy::Refusal;
 use second::random::Random;
-use second::replay::{Replayed, Step, NONE};
+use second::replay::{step, Replayed, Step, LEAVE, NONE};
 
 /// Replays in a store of the least length, against the second program.
 fn replayed(text: &[u8], question: &Question, steps: &[Step]) -> Replayed {

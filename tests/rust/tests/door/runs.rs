@@ -1,22 +1,8 @@
-//! Step records, and a policy with a run of every kind of step.
+//! A policy, and a run in it with every kind of step.
 
 use second::ask::Question;
 use second::frames::{ended, entry, form, gid, object, path, role, takes, text, uid};
-use second::replay::{Step, NONE};
-
-pub const fn step(kind: u8, role: u8, uid: u32, gid: u32, object: u8, file: u8) -> Step {
-    Step {
-        kind,
-        role,
-        uid,
-        gid,
-        object,
-        file,
-    }
-}
-
-/// Leaves the special role.
-pub const LEAVE: Step = step(0x81, NONE, 0, 0, 0, 0);
+use second::replay::{step, Step, LEAVE};
 
 /// A policy in which steps of each kind follow one another. Roles: 0 default, 1 user 5, 2 group 6, 3 special.
 /// Paths: `/`, `/a/`, `/a/b/`. Every role may take the special role, set ids and run `/a/` and what is below it;

@@ -1,4 +1,4 @@
-//! One ask for each number, worked out by hand.
+//! Asks for each number, worked out by hand.
 
 use second::against::{ask, Lengths, WORK_BYTES};
 use second::ask::{Question, STORE_LEAST, TEXT_MOST};

@@ -41,8 +41,8 @@ fn spoil(random: &mut Random, asked: &mut Asked) {
     }
 }
 
-/// An ask without its room: of a hundred texts `damaged` are damaged, of a hundred questions `spoilt` have a
-/// fault.
+/// An ask without its room: of a hundred texts `damaged` are damaged, and of a hundred asks `spoilt` get a fault
+/// of 1 to 6.
 pub fn drawn(random: &mut Random, size: Size, damaged: usize, spoilt: usize) -> Asked {
     let case = case(random, size);
     let text = match random.chance(damaged) {
@@ -60,7 +60,7 @@ pub fn drawn(random: &mut Random, size: Size, damaged: usize, spoilt: usize) -> 
         text,
         lengths,
     };
-    // Two faults at once in a part of them.
+    // A second draw: a few get a fault by it alone, or two at once.
     for of in [spoilt, spoilt / 3] {
         if random.chance(of) {
             spoil(random, &mut asked);

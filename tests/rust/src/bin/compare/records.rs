@@ -13,7 +13,7 @@ use second::search::search;
 
 /// The longest walk.
 const WALK_MOST: usize = 160;
-/// Of a thousand records in a walk these may be no step.
+/// Of a thousand records in a walk so many are taken as drawn, step or not.
 const BAD: usize = 12;
 
 fn size(random: &mut Random) -> Size {
