@@ -1,4 +1,3 @@
 pub mod Roots
 pub mod Stored
-pub mod Marks
 pub mod Crowd

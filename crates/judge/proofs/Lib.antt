@@ -1,3 +1,4 @@
 pub mod Rows
 pub mod Places
 pub mod Found
+pub mod Noting

@@ -1,37 +1,36 @@
 // Judges a frame by the policy so far, which lies in the store: refusals 8 to 13.
-// Rests on `paths`, `lines`, `rows`, `gran`, `store` and `policy`. What a reader must believe stands in specs/Judge.antt: `Answers`.
+// Rests on `paths`, `lines`, `rows`, `gran`, `store` and `policy`. What a reader must believe stands in specs/Judge.antt: `Answers`; and in
+// specs/Noted.antt: `Noted`.
 ghost use mathlib.Core.Path.{_≡_};
 ghost use mathlib.Core.List.{List};
 ghost use Prim.Native.Nat.{ℕ, _≤_};
 ghost use lib.ListN.{length};
 ghost use Rattle.gran.specs.Policy.{Policy};
 ghost use Rattle.store.specs.Held.{Bounded, Holds};
-ghost use Rattle.policy.specs.Frames.{fullOf, isSecond, isFull};
+ghost use Rattle.policy.specs.Frames.{frameIn, fullOf, isSecond, isFull};
 ghost use Rattle.policy.specs.Load.{frameRefusal};
 ghost use Rattle.judge.specs.Judge.{Answers, loadOf};
+ghost use Rattle.judge.specs.Noted.{Noted};
 use policy::frame;
 
+pub mod noted; // noted.rt: marks of the paths so far, by which most new paths are known to be new
 pub mod range; // range.rt: refusal 10, whether the fields are in range
 pub mod second; // second.rt: refusal 11, whether the policy has a thing already
 
 // Whether the frame says again what the policy so far has.
-fn is_second(store: &[u8], t: store::Tally, frame: lines::Frame) -> bool
+fn is_second(store: &[u8], t: store::Tally, marks: &[u8], size: usize, bytes: &[u8]) -> bool
     requires { ⌜ Bounded t ⌝ }
-    requires { ⌜ (1 ≤ frame .size) × (frame .size ≤ length (frame .bytes)) × (16384 ≤ length (now store)) ⌝ }
-    ensures { λ r. ⌜ Answers t (now (store .entry)) (λ (P : Policy). r ≡ isSecond P frame) ⌝ }
+    requires { ⌜ (1 ≤ size) × (size ≤ length (now bytes)) × (length (now bytes) ≤ 80) × (length (now marks) ≡ 1024) × (16384 ≤ length (now store)) ⌝ }
+    ensures { λ r. ⌜ Answers t (now (store .entry)) (λ (P : Policy). Noted P (now (marks .entry)) → r ≡ isSecond P (frameIn size (now (bytes .entry)))) ⌝ }
 {
-    match frame::byte(frame, 0) {
-        0x10 => second::has_role(store, t, frame::byte(frame, 1), frame::number4(frame, 2)),
-        0x20 => {
-            let bytes = frame.bytes;
-            let size = frame.size;
-            second::has_path(store, t, &bytes[1..size])
-        }
-        0x30 => second::has_move(store, t, frame::byte(frame, 1), frame::byte(frame, 2)),
-        0x40 => second::has_entry(store, t, frame::byte(frame, 1), frame::byte(frame, 2)),
-        0x41 => second::has_object(store, t, frame::byte(frame, 1)),
-        0x42 => second::has_uid(store, t, frame::number4(frame, 1)),
-        0x43 => second::has_gid(store, t, frame::number4(frame, 1)),
+    match frame::byte(bytes, 0) {
+        0x10 => second::has_role(store, t, frame::byte(bytes, 1), frame::number4(bytes, 2)),
+        0x20 => noted::has_path(store, t, marks, &bytes[1..size]),
+        0x30 => second::has_move(store, t, frame::byte(bytes, 1), frame::byte(bytes, 2)),
+        0x40 => second::has_entry(store, t, frame::byte(bytes, 1), frame::byte(bytes, 2)),
+        0x41 => second::has_object(store, t, frame::byte(bytes, 1)),
+        0x42 => second::has_uid(store, t, frame::number4(bytes, 1)),
+        0x43 => second::has_gid(store, t, frame::number4(bytes, 1)),
         _ => false,
     }
 }
@@ -49,11 +48,11 @@ fn is_kind_full(t: store::Tally, kind: u8) -> bool
 }
 
 // Whether the frame's table is full.
-fn is_full(t: store::Tally, frame: lines::Frame) -> bool
-    ensures { λ r. ⌜ ((P : Policy) (rest bytes : List ℕ) → Holds P rest t bytes → r ≡ isFull P frame) ⌝ }
+fn is_full(t: store::Tally, bytes: &[u8]) -> bool
+    ensures { λ r. ⌜ ((P : Policy) (rest held : List ℕ) → Holds P rest t held → (size : ℕ) → r ≡ isFull P (frameIn size (now (bytes .entry)))) ⌝ }
 {
-    match frame::byte(frame, 0) {
-        0x10 => is_kind_full(t, frame::byte(frame, 1)),
+    match frame::byte(bytes, 0) {
+        0x10 => is_kind_full(t, frame::byte(bytes, 1)),
         0x20 => 96 <= t.paths,
         0x40 => 64 <= t.entries,
         0x41 => 512 <= t.objects,
@@ -64,28 +63,36 @@ fn is_full(t: store::Tally, frame: lines::Frame) -> bool
 }
 
 // The lowest refusal of a frame after so many lines, of which the last had the type `last`, or 0.
-pub fn refusal(store: &[u8], t: store::Tally, last: u8, lines: usize, frame: lines::Frame) -> u8
+pub fn refusal(
+    store: &[u8],
+    t: store::Tally,
+    marks: &[u8],
+    last: u8,
+    lines: usize,
+    size: usize,
+    bytes: &[u8],
+) -> u8
     requires { ⌜ Bounded t ⌝ }
-    requires { ⌜ (1 ≤ frame .size) × (frame .size ≤ length (frame .bytes)) × (16384 ≤ length (now store)) ⌝ }
-    ensures { λ r. ⌜ Answers t (now (store .entry)) (λ (P : Policy). r ≡ frameRefusal (loadOf last lines P) frame) ⌝ }
+    requires { ⌜ (1 ≤ size) × (size ≤ length (now bytes)) × (length (now bytes) ≤ 80) × (length (now marks) ≡ 1024) × (16384 ≤ length (now store)) ⌝ }
+    ensures { λ r. ⌜ Answers t (now (store .entry)) (λ (P : Policy). Noted P (now (marks .entry)) → r ≡ frameRefusal (loadOf last lines P) (frameIn size (now (bytes .entry)))) ⌝ }
 {
-    let kind = frame::byte(frame, 0);
-    if !frame::fits_type(kind, frame.size - 1) {
+    let kind = frame::byte(bytes, 0);
+    if !frame::fits_type(kind, size - 1) {
         return 8;
     }
     if !frame::may_follow(last, kind) {
         return 9;
     }
-    if !range::in_range(store, t, frame) {
+    if !range::in_range(store, t, size, bytes) {
         return 10;
     }
-    if is_second(store, t, frame) {
+    if is_second(store, t, marks, size, bytes) {
         return 11;
     }
-    if is_full(t, frame) {
+    if is_full(t, bytes) {
         return 12;
     }
-    if frame::is_miscounted(lines, frame) {
+    if frame::is_miscounted(lines, bytes) {
         return 13;
     }
     0

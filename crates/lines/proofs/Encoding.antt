@@ -4,14 +4,14 @@ use mathlib.Core.Path.{_≡_, _∙_, refl, sym}
 use mathlib.Core.Bool.{true}
 use mathlib.Core.List.{List, [], _∷_, _++_, append-nil, append-assoc}
 use Prim.Native.Nat.{ℕ, suc, _+_, _*_, _/_, _%_, _≤_, _<_}
-use native.Mathlib.Decide.{decLt}
 use native.Mathlib.Numerals.{add-one}
 use native.Mathlib.Omega.{arith}
-use borrow.Author.Tests.{le-leb, lt-leb, le-ltb, lt-ltb}
+use borrow.Author.Tests.{le-leb, lt-leb, le-ltb}
 use lib.ListN.{length, getD, drop, set, length-set, length-append, drop-of-length-le}
 use lib.Seq.{drop-cons}
-use Rattle.lines.specs.Line.{hexValue, pairValue, hexPairs, goodLine, bytesOf, digitOf, hexOf, lineOf, Bytes, inFront, encoded, EncodedAs}
+use Rattle.lines.specs.Line.{pairValue, hexPairs, goodLine, bytesOf, digitOf, hexOf, lineOf, Bytes, inFront, encoded, EncodedAs}
 use Rattle.lines.proofs.Rooms.{inFront-more}
+use Rattle.lines.proofs.Values.{digit-value}
 
 hexOf-length : (bytes : List ℕ) → length (hexOf bytes) ≡ 2 * length bytes
 unfolding hexOf
@@ -82,22 +82,7 @@ module _ (bytes before room : List ℕ) (i k : ℕ) (e : Encoding bytes before r
       let all : hexOf bytes ≡ e .done = e .digits ∙ rw (drop-of-length-le bytes {i = i} h) (append-nil (e .done)) in
       rw (e .held, e .count, inFront-more (e .done) before 10 (omega arith), ← all) (encoded-fits bytes before (e .fits))
 
--- a digit's value is the value again, and two digits stand for their byte
-digit-value : (v : ℕ) → v < 16 → hexValue (digitOf v) ≡ v
-unfolding hexValue digitOf
-digit-value v h = go (decLt v 10)
-  where
-    go : Dec (v < 10) → hexValue (digitOf v) ≡ v
-    go (yes p) = simp (lt-ltb v 10 p, le-ltb (v + 48) 48 (omega arith), le-leb (v + 48) 57 (omega arith)) (omega arith)
-    go (no n) =
-        simp (
-          le-ltb v 10 (omega arith),
-          le-ltb (v + 87) 48 (omega arith),
-          lt-leb (v + 87) 57 (omega arith),
-          le-ltb (v + 87) 97 (omega arith),
-          le-leb (v + 87) 102 (omega arith),
-        ) (omega arith)
-
+-- two digits stand for their byte
 pair-digits : (b : ℕ) → b < 256 → pairValue (digitOf (b / 16)) (digitOf (b % 16)) ≡ b
 unfolding pairValue
 pair-digits b h = rw (digit-value (b / 16) (omega arith), digit-value (b % 16) (omega arith)) (simp (le-ltb 15 (b / 16) (omega arith), le-ltb 15 (b % 16) (omega arith)) (omega arith))

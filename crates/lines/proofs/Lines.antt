@@ -11,7 +11,7 @@ use borrow.Author.Tests.{eq-eqb, ne-eqb}
 use lib.Dec.{eqb}
 use lib.ListN.{length, getD, take, drop, length-drop, drop-of-length-le}
 use lib.Seq.{drop-cons, drop-drop, length-take-le}
-use Rattle.lines.specs.Line.{lineLength, linesOf, prepend}
+use Rattle.lines.specs.Line.{lineLength, firstLine, linesOf, prepend}
 
 -- the byte at i decides
 module _ (s : List ℕ) (i : ℕ) where
@@ -28,7 +28,7 @@ module _ (s : List ℕ) (i : ℕ) where
   line-end h = rw (drop-of-length-le s {i = i} h)
 
 -- the first line, and the lines of the rest
-pub lines-cons : (s : List ℕ) → 0 < length s → linesOf s ≡ take (lineLength s) s ∷ linesOf (drop (lineLength s) s)
+pub lines-cons : (s : List ℕ) → 0 < length s → linesOf s ≡ firstLine s ∷ linesOf (drop (lineLength s) s)
 unfolding linesOf lineLength prepend
 lines-cons [] h = absurd (not-suc-le-zero h)
 lines-cons (b ∷ []) h = go (eqb b 10)
@@ -38,7 +38,7 @@ lines-cons (b ∷ []) h = go (eqb b 10)
     go false = refl
 lines-cons (b ∷ (a ∷ s)) h = go (eqb b 10) (lines-cons (a ∷ s) (omega arith))
   where
-    go : (t : Bool) → linesOf (a ∷ s) ≡ take (lineLength (a ∷ s)) (a ∷ s) ∷ linesOf (drop (lineLength (a ∷ s)) (a ∷ s)) →
+    go : (t : Bool) → linesOf (a ∷ s) ≡ firstLine (a ∷ s) ∷ linesOf (drop (lineLength (a ∷ s)) (a ∷ s)) →
         cond t ((b ∷ []) ∷ linesOf (a ∷ s)) (prepend b (linesOf (a ∷ s))) ≡
         take (cond t 1 (suc (lineLength (a ∷ s)))) (b ∷ (a ∷ s)) ∷ linesOf (drop (cond t 1 (suc (lineLength (a ∷ s)))) (b ∷ (a ∷ s)))
     go true e = refl
@@ -64,12 +64,12 @@ line-positive (b ∷ s) h = go (eqb b 10)
     go false = omega arith
 
 -- the first line is as long as it is said to be
-pub first-length : (s : List ℕ) → length (take (lineLength s) s) ≡ lineLength s
+pub first-length : (s : List ℕ) → length (firstLine s) ≡ lineLength s
 first-length s = length-take-le (lineLength s) s (line-within s)
 
 -- a loop over the lines of a text that has come to i
 module _ (s : List ℕ) (i : ℕ) where
-  pub lines-next : i < length s → linesOf (drop i s) ≡ take (lineLength (drop i s)) (drop i s) ∷ linesOf (drop (i + lineLength (drop i s)) s)
+  pub lines-next : i < length s → linesOf (drop i s) ≡ firstLine (drop i s) ∷ linesOf (drop (i + lineLength (drop i s)) s)
   lines-next h = lines-cons (drop i s) (simp length-drop (omega arith)) ∙ rw drop-drop
 
   pub lines-end : length s ≤ i → linesOf (drop i s) ≡ []

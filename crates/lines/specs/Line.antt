@@ -5,7 +5,7 @@ use mathlib.Core.Bool.{Bool, false, cond, _&&_}
 use mathlib.Core.List.{List, [], _∷_, _++_}
 use Prim.Native.Nat.{ℕ, suc, _+_, _-_, _*_, _/_, _%_, _<_}
 use lib.Dec.{leb, ltb, eqb}
-use lib.ListN.{length, getD, drop, replicate}
+use lib.ListN.{length, getD, take, drop, replicate}
 use Rattle.lines.specs.declared.Frame.{Frame}
 
 -- A digit's value (0 to 9 are the bytes 48 to 57, a to f the bytes 97 to 102), or 16 for a byte that is no digit.
@@ -16,10 +16,19 @@ hexValue b = cond (ltb b 48) 16 (cond (leb b 57) (b - 48) (cond (ltb b 97) 16 (c
 unfoldable pub pairValue : ℕ → ℕ → ℕ
 pairValue a b = cond (ltb 15 (hexValue a)) 256 (cond (ltb 15 (hexValue b)) 256 (hexValue a * 16 + hexValue b))
 
+-- A table of the digits' values by their bytes, with 256 for a byte that is no digit.
+pub record Digits (values : List ℕ) : Type 0 where
+  pub long : length values ≡ 256
+  pub is : (b : ℕ) → b < 256 → getD values b 0 ≡ cond (ltb (hexValue b) 16) (hexValue b) 256
+
 -- The length of a text's first line: the bytes up to the first LF, and that LF where there is one.
 unfoldable pub lineLength : List ℕ → ℕ
 lineLength [] = 0
 lineLength (b ∷ bs) = cond (eqb b 10) 1 (suc (lineLength bs))
+
+-- A text's first line.
+abbrev pub firstLine : List ℕ → List ℕ
+firstLine text = take (lineLength text) text
 
 -- One byte in front of the first line.
 unfoldable pub prepend : ℕ → List (List ℕ) → List (List ℕ)
@@ -58,6 +67,11 @@ frameOf bytes = record { size = length bytes; bytes = bytes ++ zeros (80 - lengt
 -- The frame of a good line; of any other line a frame of no bytes, so that size 0 says refusal 7.
 unfoldable pub decoded : List ℕ → Frame
 decoded line = frameOf (cond (goodLine line) (bytesOf line) [])
+
+-- Decoding a line into 80 bytes 0: the frame's size, and where that is not 0 the frame's bytes.
+pub record DecodedInto (line : List ℕ) (size : ℕ) (bytes : List ℕ) : Type 0 where
+  pub none : size ≡ 0 → decoded line ≡ frameOf []
+  pub whole : (size ≡ 0 → ⊥) → record { size = size; bytes = bytes } ≡ decoded line
 
 -- The lowercase digit of a value below 16.
 unfoldable pub digitOf : ℕ → ℕ

@@ -1,10 +1,13 @@
 // Hexadecimal lines: a line's form, the bytes that it stands for, and bytes written as a line. Rests on nothing.
-// What a reader must believe stands in specs/Line.antt: `lineLength` and `linesOf`; `goodLine`, `bytesOf` and `decoded`;
+// What a reader must believe stands in specs/Line.antt: `lineLength`, `firstLine` and `linesOf`; `goodLine`, `bytesOf` and `decoded`;
 // `lineOf` and `encoded`; and what these name.
 ghost use mathlib.Core.Path.{_≡_};
+ghost use mathlib.Core.Bool.{cond};
 ghost use mathlib.Core.List.{[]};
-ghost use Prim.Native.Nat.{_<_};
-ghost use Rattle.lines.specs.Line.{hexValue, pairValue, lineLength, frameOf, decoded, digitOf, EncodedAs};
+ghost use Prim.Native.Nat.{_<_, min};
+ghost use lib.Dec.{eqb};
+ghost use lib.ListN.{length, getD};
+ghost use Rattle.lines.specs.Line.{Digits, pairValue, lineLength, firstLine, zeros, frameOf, decoded, DecodedInto, digitOf, EncodedAs};
 
 const LF: u8 = 10;
 
@@ -17,38 +20,40 @@ pub struct Frame {
     pub bytes: [u8; 80],
 }
 
-// A digit's value, or 16 for a byte that is no digit. One sum serves 0 to 9 and a to f: which comes next cannot be foreseen.
-fn hex_value(b: u8) -> u16
-    ensures { λ r. ⌜ r ≡ hexValue b ⌝ }
+// The lowercase digit of a value below 16.
+fn digit(value: u8) -> u8
+    requires { ⌜ value < 16 ⌝ }
+    ensures { λ r. ⌜ r ≡ digitOf value ⌝ }
 {
-    if b < b'0' {
-        return 16;
+    if value < 10 {
+        return value + 48;
     }
-    if b'f' < b {
-        return 16;
+    value + 87
+}
+
+// For each byte its value as a digit, or 256 for one that is no digit. Made once for a text: which digit comes next cannot be foreseen,
+// so that a test of each would cost more than the rest of the decoding.
+pub fn digits() -> [u16; 256]
+    ensures { λ r. ⌜ Digits r ⌝ }
+{
+    let mut values = [256; 256];
+    for v in 0..16 {
+        let b = digit(v);
+        values[b as usize] = v as u16;
     }
-    if b'9' < b {
-        if b < b'a' {
-            return 16;
-        }
-    }
-    let value = b as u16;
-    value % 16 + 9 * (value / 64)
+    values
 }
 
 // The byte that two digits stand for, or 256 where one of them is no digit.
-fn pair_value(a: u8, b: u8) -> u16
+fn pair_value(values: &[u16; 256], a: u8, b: u8) -> u16
+    requires { ⌜ Digits (now values) ⌝ }
     ensures { λ r. ⌜ r ≡ pairValue a b ⌝ }
 {
-    let high = hex_value(a);
-    if 15 < high {
+    let value = values[a as usize] * 16 + values[b as usize];
+    if 255 < value {
         return 256;
     }
-    let low = hex_value(b);
-    if 15 < low {
-        return 256;
-    }
-    high * 16 + low
+    value
 }
 
 // The length of the first line of a text, with its LF where it has one.
@@ -75,46 +80,61 @@ fn empty() -> Frame
     }
 }
 
-// The frame of a line; size 0 where the line is not good.
-pub fn decode(line: &[u8]) -> Frame
-    ensures { λ r. ⌜ r ≡ decoded (now (line .entry)) ⌝ }
+// How far the first line of a text can be good: to the text's end, or as far as the longest good line goes.
+fn reach(text: &[u8]) -> usize
+    ensures { λ r. do ⌜ r ≡ min (length (now (text .entry))) (← ⟦LONGEST⟧ .entry) ⌝ }
 {
-    if line.len() < 3 {
-        return empty();
+    if text.len() < LONGEST {
+        return text.len();
     }
-    if LONGEST < line.len() {
-        return empty();
+    LONGEST
+}
+
+// What a line gives whose digits end at k, after i bytes: i where LF stands there, else 0.
+fn ends(text: &[u8], k: usize, i: usize) -> usize
+    ensures { λ r. ⌜ r ≡ cond (eqb (getD (now (text .entry)) k 0) 10) i 0 ⌝ }
+{
+    if text.len() <= k {
+        return 0;
     }
-    let mut bytes = [0u8; 80];
+    if text[k] != LF {
+        return 0;
+    }
+    i
+}
+
+// Writes the bytes of a text's first line in front of bytes 0: how many they are, 0 where that line is not good.
+// No LF is sought: the digits end at it, as it is no digit.
+pub fn decode_first(text: &[u8], values: &[u16; 256], bytes: &mut [u8; 80]) -> usize
+    requires { ⌜ Digits (now values) × (now bytes ≡ zeros 80) ⌝ }
+    ensures { λ r. ⌜ DecodedInto (firstLine (now (text .entry))) r (now (bytes .exit)) ⌝ }
+{
+    let most = reach(text);
     let mut i = 0;
     let mut k = 0;
-    while k + 1 < line.len() {
-        let value = pair_value(line[k], line[k + 1]);
+    while k + 1 < most {
+        let value = pair_value(values, text[k], text[k + 1]);
         if 255 < value {
-            return empty();
+            return ends(text, k, i);
         }
         bytes[i] = value as u8;
         i += 1;
         k += 2;
     }
-    if line.len() <= k {
-        return empty();
-    }
-    if line[k] != LF {
-        return empty();
-    }
-    Frame { size: i, bytes }
+    ends(text, k, i)
 }
 
-// The lowercase digit of a value below 16.
-fn digit(value: u8) -> u8
-    requires { ⌜ value < 16 ⌝ }
-    ensures { λ r. ⌜ r ≡ digitOf value ⌝ }
+// The frame of a text's first line; size 0 where that line is not good.
+pub fn decode(text: &[u8]) -> Frame
+    ensures { λ r. ⌜ r ≡ decoded (firstLine (now (text .entry))) ⌝ }
 {
-    if value < 10 {
-        return value + 48;
+    let values = digits();
+    let mut bytes = [0u8; 80];
+    let size = decode_first(text, &values, &mut bytes);
+    if size == 0 {
+        return empty();
     }
-    value + 87
+    Frame { size, bytes }
 }
 
 // Writes the line of `bytes` in front of `room`: the line's length, or 0 where it does not fit.

@@ -7,7 +7,7 @@ use native.Mathlib.Omega.{arith}
 use borrow.Author.Tests.{ne-eqb}
 use lib.ListN.{length, take, drop, length-append, length-drop}
 use lib.Seq.{take-all, drop-at}
-use Rattle.lines.specs.Line.{zeros, lineLength, linesOf, decoded}
+use Rattle.lines.specs.Line.{zeros, lineLength, firstLine, linesOf, decoded}
 use Rattle.lines.proofs.Lines.{lines-next, lines-end, line-within, line-positive, first-length}
 use Rattle.lines.proofs.Rooms.{length-zeros}
 use Rattle.rows.specs.Rows.{joined}
@@ -22,23 +22,24 @@ use Rattle.policy.specs.Load.{Load, start, after, refusalOf, going, stepBy, ste
 use Rattle.policy.specs.Sound.{leastText}
 use Rattle.policy.proofs.Loads.{sound-start, run-stopped}
 use Rattle.policy.proofs.Room.{text-line}
+use Rattle.judge.proofs.Noting.{noted-none}
 use Rattle.load.specs.Step.{Lies, CanRead, LineRead, Cleared, AllPassed}
 
 -- Before the line at `at`: a load lies in the store, and the lines from there on decide.
-pub record Loading (text rest bytes : List ℕ) (t : Tally) (last line at : ℕ) : Type 0 where
+pub record Loading (text rest bytes marks : List ℕ) (t : Tally) (last line at : ℕ) : Type 0 where
   pub load : Load
-  pub lies : Lies load rest t last line bytes
+  pub lies : Lies load rest t last line bytes marks
   pub bounded : Bounded t
   pub within : at ≤ length text
   pub short : leastText (load .policy) ≤ at
   pub count : line ≤ at
   pub decides : run (going start) (linesOf text) ≡ run (going load) (linesOf (drop at text))
 
-pub loading-begins : (text bytes : List ℕ) → Cleared bytes → (t : Tally) → t ≡ noTally → Loading text (drop 16384 bytes) bytes t 0 0 0
+pub loading-begins : (text bytes marks : List ℕ) → Cleared bytes → (t : Tally) → t ≡ noTally → Loading text (drop 16384 bytes) bytes marks t 0 0 0
 unfolding leastText joined allIds
-loading-begins text bytes e t n = rw n (record {
+loading-begins text bytes marks e t n = rw n (record {
   load = start;
-  lies = record { held = subst (λ (b : List ℕ). Holds noPolicy (drop 16384 bytes) noTally b) (sym e) (zeros-hold (drop 16384 bytes)); sound = sound-start; last-is = refl; lines-is = refl };
+  lies = record { held = subst (λ (b : List ℕ). Holds noPolicy (drop 16384 bytes) noTally b) (sym e) (zeros-hold (drop 16384 bytes)); noted = noted-none noPolicy marks refl; sound = sound-start; last-is = refl; lines-is = refl };
   bounded = omega arith;
   within = omega arith;
   short = omega arith;
@@ -51,8 +52,8 @@ pub tail-is : (text : List ℕ) (at : ℕ) → take (length text - at) (drop at 
 tail-is text at = take-all (length text - at) (drop at text) (simp length-drop (omega arith))
 
 -- one step of the fold, by its refusal
-run-next : (s : Load) (text : List ℕ) (at n : ℕ) → at < length text → n ≡ refusalOf s (take (lineLength (drop at text)) (drop at text)) →
-    run (going s) (linesOf (drop at text)) ≡ run (stepBy n s (take (lineLength (drop at text)) (drop at text))) (linesOf (drop (at + lineLength (drop at text)) text))
+run-next : (s : Load) (text : List ℕ) (at n : ℕ) → at < length text → n ≡ refusalOf s (firstLine (drop at text)) →
+    run (going s) (linesOf (drop at text)) ≡ run (stepBy n s (firstLine (drop at text))) (linesOf (drop (at + lineLength (drop at text)) text))
 unfolding run step
 run-next s text at n h e = rw (lines-next text at h, e)
 
@@ -64,34 +65,34 @@ held-past P rest t bytes b h =
     let long : length (zeros 16 ++ body P) ≡ 16384 = simp (length-append, length-zeros) (omega (arith, length-append (header P) (body P), header-length P)) in
     rw (h .stored, ← append-assoc (zeros 16) (body P) rest) (drop-at (zeros 16 ++ body P) rest 16384 long)
 
-module _ (text rest bytes : List ℕ) (t : Tally) (last line at : ℕ) (l : Loading text rest bytes t last line at) where
+module _ (text rest bytes marks : List ℕ) (t : Tally) (last line at : ℕ) (l : Loading text rest bytes marks t last line at) where
   pub loading-past : drop 16384 bytes ≡ rest
   loading-past = held-past (l .load .policy) rest t bytes (l .bounded) (l .lies .held)
 
-  pub can-read : length text ≤ 32768 → CanRead t last line (take (length text - at) (drop at text)) bytes
+  pub can-read : length text ≤ 32768 → CanRead t last line (take (length text - at) (drop at text)) bytes marks
   can-read h = record { load = l .load; rest = rest; lies = l .lies; bounded = l .bounded; short = rw (tail-is text at, length-drop) (omega (arith, l .short, l .within)) }
 
-  module _ (more : at < length text) (number size type : ℕ) (next : Tally) (left : List ℕ) (read : LineRead t last line (take (length text - at) (drop at text)) bytes number size type next left) where
-    here : LineRead t last line (drop at text) bytes number size type next left
+  module _ (more : at < length text) (number size type : ℕ) (next : Tally) (left noted : List ℕ) (read : LineRead t last line (take (length text - at) (drop at text)) bytes marks number size type next left noted) where
+    here : LineRead t last line (drop at text) bytes marks number size type next left noted
     here = rw (tail-is text at) at read
 
-    pub step-span : (0 < size) × (at + size ≤ length text)
-    step-span = (omega (arith, line-positive (drop at text) (rw length-drop (omega arith)), here .span), omega (arith, line-within (drop at text), length-drop at text, here .span))
+    pub step-span : number ≡ 0 → (0 < size) × (at + size ≤ length text)
+    step-span z = (omega (arith, line-positive (drop at text) (rw length-drop (omega arith)), here .span z), omega (arith, line-within (drop at text), length-drop at text, here .span z))
 
-    pub loading-goes-on : number ≡ 0 → Loading text rest left next type (line + 1) (at + size)
+    pub loading-goes-on : number ≡ 0 → Loading text rest left noted next type (line + 1) (at + size)
     unfolding stepBy
     loading-goes-on z =
         let s = l .load in
-        let this = take (lineLength (drop at text)) (drop at text) in
+        let this = firstLine (drop at text) in
         let zero-here : refusalOf s this ≡ 0 = sym (here .lowest s rest (l .lies)) ∙ z in
         record {
           load = after s (decoded this);
           lies = here .lies z s rest (l .lies);
           bounded = here .bounded z;
-          within = step-span .1;
-          short = omega (arith, text-line s this zero-here, first-length (drop at text), here .span, l .short);
-          count = omega (arith, step-span .0, l .count);
-          decides = l .decides ∙ run-next s text at 0 more (sym zero-here) ∙ rw (here .span);
+          within = step-span z .1;
+          short = omega (arith, text-line s this zero-here, first-length (drop at text), here .span z, l .short);
+          count = omega (arith, step-span z .0, l .count);
+          decides = l .decides ∙ run-next s text at 0 more (sym zero-here) ∙ rw (here .span z);
         }
 
     pub loading-stops : (number ≡ 0 → ⊥) → reading text ≡ refused number (line + 1)

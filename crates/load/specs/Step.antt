@@ -4,14 +4,15 @@ use mathlib.Core.Path.{_≡_}
 use mathlib.Core.Bool.{cond}
 use mathlib.Core.List.{List, _++_}
 use Prim.Native.Nat.{ℕ, _+_, _≤_, _<_}
-use lib.ListN.{length, take, drop}
+use lib.ListN.{length, drop}
 use Rattle.lines.specs.declared.Frame.{Frame}
-use Rattle.lines.specs.Line.{Bytes, zeros, lineLength, linesOf, decoded}
+use Rattle.lines.specs.Line.{Bytes, zeros, lineLength, firstLine, linesOf, decoded}
 use Rattle.store.specs.declared.Tally.{Tally}
 use Rattle.store.specs.Held.{Bounded, Holds, roleTally, pathTally, moveTally, entryTally, objectTally, uidTally, gidTally}
 use Rattle.policy.specs.Frames.{byteAt, typeOf, isType, pathFrom}
 use Rattle.policy.specs.Load.{Load, start, add, after, frameRefusal, refusalOf, going, run, refused, reading}
 use Rattle.policy.specs.Sound.{Sound, leastText}
+use Rattle.judge.specs.Noted.{Noted}
 
 -- ---- one frame
 
@@ -41,28 +42,29 @@ pub record FrameAdded (f : Frame) (t : Tally) (before : List ℕ) (r : Tally) (l
 
 -- ---- one line
 
--- A load lies in the tallies, the last type, the count of lines and the bytes.
-pub record Lies (s : Load) (rest : List ℕ) (t : Tally) (last lines : ℕ) (bytes : List ℕ) : Type 0 where
+-- A load lies in the tallies, the last type, the count of lines and the bytes, and its paths in the marks.
+pub record Lies (s : Load) (rest : List ℕ) (t : Tally) (last lines : ℕ) (bytes marks : List ℕ) : Type 0 where
   pub held : Holds (s .policy) rest t bytes
+  pub noted : Noted (s .policy) marks
   pub sound : Sound s
   pub last-is : last ≡ s .last
   pub lines-is : lines ≡ s .lines
 
 -- Some load does, and the text that is left is short enough for the room.
-pub record CanRead (t : Tally) (last lines : ℕ) (text bytes : List ℕ) : Type 0 where
+pub record CanRead (t : Tally) (last lines : ℕ) (text bytes marks : List ℕ) : Type 0 where
   pub load : Load
   pub rest : List ℕ
-  pub lies : Lies load rest t last lines bytes
+  pub lies : Lies load rest t last lines bytes marks
   pub bounded : Bounded t
   pub short : leastText (load .policy) + length text ≤ 32768
 
--- The first line was read: its length and its refusal; without one the load after it lies there, with one nothing changed.
-pub record LineRead (t : Tally) (last lines : ℕ) (text before : List ℕ) (number size type : ℕ) (next : Tally) (left : List ℕ) : Type 0 where
-  pub span : size ≡ lineLength text
+-- The first line was read: its refusal; without one its length, and the load after it lies there; with one nothing changed.
+pub record LineRead (t : Tally) (last lines : ℕ) (text before marks : List ℕ) (number size type : ℕ) (next : Tally) (left noted : List ℕ) : Type 0 where
+  pub span : number ≡ 0 → size ≡ lineLength text
   pub kept : length left ≡ length before
-  pub lowest : (s : Load) (rest : List ℕ) → Lies s rest t last lines before → number ≡ refusalOf s (take (lineLength text) text)
+  pub lowest : (s : Load) (rest : List ℕ) → Lies s rest t last lines before marks → number ≡ refusalOf s (firstLine text)
   pub bounded : number ≡ 0 → Bounded next
-  pub lies : number ≡ 0 → (s : Load) (rest : List ℕ) → Lies s rest t last lines before → Lies (after s (decoded (take (lineLength text) text))) rest next type (lines + 1) left
+  pub lies : number ≡ 0 → (s : Load) (rest : List ℕ) → Lies s rest t last lines before marks → Lies (after s (decoded (firstLine text))) rest next type (lines + 1) left noted
   pub same : (number ≡ 0 → ⊥) → left ≡ before
 
 -- ---- all lines

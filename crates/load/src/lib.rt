@@ -3,41 +3,40 @@
 // specs/Load.antt: `LoadedAs`. The promises of the steps between stand in specs/Step.antt.
 ghost use Prim.Native.Nat.{_≤_, _<_};
 ghost use lib.ListN.{length};
+ghost use mathlib.Core.Path.{_≡_};
+ghost use Rattle.lines.specs.Line.{Digits};
+ghost use Rattle.policy.specs.Frames.{frameIn};
 ghost use Rattle.policy.specs.Load.{LoadedAs};
 ghost use Rattle.load.specs.Step.{Ready, FrameAdded, CanRead, LineRead, Cleared, LinesRead};
 use policy::frame;
 use store::Tally;
 
 // Adds what a frame that is not refused says to the tallies and the store.
-fn add(store: &mut [u8], t: Tally, frame: lines::Frame) -> Tally
-    requires { ⌜ Ready t frame ⌝ }
+fn add(store: &mut [u8], t: Tally, size: usize, bytes: &[u8]) -> Tally
+    requires { ⌜ Ready t (frameIn size (now bytes)) ⌝ }
     requires { ⌜ 16384 ≤ length (now store) ⌝ }
-    ensures { λ r. ⌜ FrameAdded frame t (now (store .entry)) r (now (store .exit)) ⌝ }
+    ensures { λ r. ⌜ FrameAdded (frameIn size (now (bytes .entry))) t (now (store .entry)) r (now (store .exit)) ⌝ }
 {
-    match frame::byte(frame, 0) {
-        0x10 => writing::add_role(store, t, frame::byte(frame, 1), frame::number4(frame, 2)),
-        0x20 => {
-            let bytes = frame.bytes;
-            let size = frame.size;
-            writing::add_path(store, t, &bytes[1..size])
-        }
-        0x30 => writing::add_move(store, t, frame::byte(frame, 1), frame::byte(frame, 2)),
+    match frame::byte(bytes, 0) {
+        0x10 => writing::add_role(store, t, frame::byte(bytes, 1), frame::number4(bytes, 2)),
+        0x20 => writing::add_path(store, t, &bytes[1..size]),
+        0x30 => writing::add_move(store, t, frame::byte(bytes, 1), frame::byte(bytes, 2)),
         0x40 => {
-            let role = frame::byte(frame, 1);
-            let subject = frame::byte(frame, 2);
-            let caps = frame::byte(frame, 3);
-            let users = frame::byte(frame, 4);
-            let groups = frame::byte(frame, 5);
+            let role = frame::byte(bytes, 1);
+            let subject = frame::byte(bytes, 2);
+            let caps = frame::byte(bytes, 3);
+            let users = frame::byte(bytes, 4);
+            let groups = frame::byte(bytes, 5);
             writing::add_entry(store, t, subject, role, caps, users, groups)
         }
-        0x41 => writing::add_object(store, t, frame::byte(frame, 1), frame::byte(frame, 2)),
-        0x42 => writing::add_uid(store, t, frame::number4(frame, 1)),
-        0x43 => writing::add_gid(store, t, frame::number4(frame, 1)),
+        0x41 => writing::add_object(store, t, frame::byte(bytes, 1), frame::byte(bytes, 2)),
+        0x42 => writing::add_uid(store, t, frame::number4(bytes, 1)),
+        0x43 => writing::add_gid(store, t, frame::number4(bytes, 1)),
         _ => t,
     }
 }
 
-// What a line gave: its refusal, or 0 with the tallies and the type after it; and its length.
+// What a line gave: its refusal, or 0 with its length and with the tallies and the type after it.
 struct Step {
     number: u8,
     size: usize,
@@ -45,33 +44,45 @@ struct Step {
     tally: Tally,
 }
 
-// Reads the first line of a text that is not empty, after so many lines of which the last had the type `last`.
-fn read_line(text: &[u8], store: &mut [u8], t: Tally, last: u8, before: usize) -> Step
-    requires { ⌜ CanRead t last before (now text) (now store) ⌝ }
-    requires { ⌜ (0 < length (now text)) × (16384 ≤ length (now store)) ⌝ }
-    ensures { λ r. ⌜ LineRead t last before (now (text .entry)) (now (store .entry)) (r .number) (r .size) (r .last) (r .tally) (now (store .exit)) ⌝ }
+// What a refused line gave.
+fn refused(number: u8, last: u8, tally: Tally) -> Step
+    ensures { λ r. ⌜ r ≡ record { number = number; size = 0; last = last; tally = tally } ⌝ }
 {
-    let size = lines::line_length(text);
-    let frame = lines::decode(&text[..size]);
-    if frame.size == 0 {
-        return Step {
-            number: 7,
-            size,
-            last,
-            tally: t,
-        };
+    Step {
+        number,
+        size: 0,
+        last,
+        tally,
     }
-    let number = judge::refusal(store, t, last, before, frame);
+}
+
+// Reads the first line of a text that is not empty, after so many lines of which the last had the type `last`.
+fn read_line(
+    text: &[u8],
+    values: &[u16; 256],
+    store: &mut [u8],
+    marks: &mut [u8],
+    t: Tally,
+    last: u8,
+    before: usize,
+) -> Step
+    requires { ⌜ CanRead t last before (now text) (now store) (now marks) ⌝ }
+    requires { ⌜ Digits (now values) × (16384 ≤ length (now store)) × (length (now marks) ≡ 1024) ⌝ }
+    ensures { λ r. ⌜ LineRead t last before (now (text .entry)) (now (store .entry)) (now (marks .entry)) (r .number) (r .size) (r .last) (r .tally) (now (store .exit)) (now (marks .exit)) ⌝ }
+{
+    let mut bytes = [0u8; 80];
+    let count = lines::decode_first(text, values, &mut bytes);
+    if count == 0 {
+        return refused(7, last, t);
+    }
+    let number = judge::refusal(store, t, marks, last, before, count, &bytes);
     if number != 0 {
-        return Step {
-            number,
-            size,
-            last,
-            tally: t,
-        };
+        return refused(number, last, t);
     }
-    let kind = frame::byte(frame, 0);
-    let tally = add(store, t, frame);
+    let kind = frame::byte(&bytes, 0);
+    let tally = add(store, t, count, &bytes);
+    judge::noted::note(marks, count, &bytes);
+    let size = 2 * count + 1; // two digits a byte, and LF
     Step {
         number: 0,
         size,
@@ -93,12 +104,14 @@ fn read_lines(text: &[u8], store: &mut [u8]) -> Lines
     requires { ⌜ (length (now text) ≤ 32768) × (16384 ≤ length (now store)) ⌝ }
     ensures { λ r. ⌜ LinesRead (now (text .entry)) (now (store .entry)) (r .number) (r .line) (r .tally) (now (store .exit)) ⌝ }
 {
+    let values = lines::digits();
+    let mut marks = [0u8; 1024];
     let mut t = Tally::empty();
     let mut last = 0u8;
     let mut line = 0;
     let mut at = 0;
     while at < text.len() {
-        let step = read_line(&text[at..], store, t, last, line);
+        let step = read_line(&text[at..], &values, store, &mut marks, t, last, line);
         line += 1;
         let number = step.number;
         if number != 0 {

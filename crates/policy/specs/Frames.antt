@@ -19,6 +19,10 @@ use Rattle.store.specs.Grow.{newEntry}
 
 -- ---- fields
 
+-- The frame in these bytes, of which it takes the first `size`.
+abbrev pub frameIn : ℕ → List ℕ → Frame
+frameIn size bytes = record { size = size; bytes = bytes }
+
 -- The byte at a place, 0 past the frame's end.
 abbrev pub byteAt : Frame → ℕ → ℕ
 byteAt f i = getD (f .bytes) i 0

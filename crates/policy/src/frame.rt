@@ -1,8 +1,9 @@
 // The fields of a frame, and the tests of refusals 8, 9, 10 and 13 that need no policy.
+// A frame's bytes are lent: a copy made right after they were written waits for each of them.
 ghost use mathlib.Core.Path.{_≡_};
-ghost use Prim.Native.Nat.{_<_};
+ghost use Prim.Native.Nat.{ℕ, _<_};
 ghost use lib.ListN.{getD};
-ghost use Rattle.policy.specs.Frames.{byteAt, number2, number4, roleFrom, frameTable, fitsTable, mayFollow, goodRole, miscounts};
+ghost use Rattle.policy.specs.Frames.{frameIn, number2, number4, roleFrom, frameTable, fitsTable, mayFollow, goodRole, miscounts};
 use rows::wide;
 
 // A type with its shortest and longest payload. Bytes all: the compiled code lays the table down anew for each frame.
@@ -67,7 +68,7 @@ fn word(b: u8) -> u32
 }
 
 // The byte at a place, 0 past the end.
-fn byte_at(bytes: &[u8], at: usize) -> u8
+pub fn byte(bytes: &[u8], at: usize) -> u8
     ensures { λ r. ⌜ r ≡ getD (now (bytes .entry)) at 0 ⌝ }
 {
     if at < bytes.len() {
@@ -76,28 +77,21 @@ fn byte_at(bytes: &[u8], at: usize) -> u8
     0
 }
 
-// The same of a frame.
-pub fn byte(frame: lines::Frame, at: usize) -> u8
-    ensures { λ r. ⌜ r ≡ byteAt frame at ⌝ }
-{
-    byte_at(&frame.bytes, at)
-}
-
 // The number in two bytes from a place on.
-pub fn number2(frame: lines::Frame, at: u8) -> usize
-    ensures { λ r. ⌜ r ≡ number2 frame at ⌝ }
+pub fn number2(bytes: &[u8], at: u8) -> usize
+    ensures { λ r. ⌜ ((size : ℕ) → r ≡ number2 (frameIn size (now (bytes .entry))) at) ⌝ }
 {
     let i = wide(at);
-    wide(byte(frame, i)) * 256 + wide(byte(frame, i + 1))
+    wide(byte(bytes, i)) * 256 + wide(byte(bytes, i + 1))
 }
 
 // The number in four bytes from a place on.
-pub fn number4(frame: lines::Frame, at: u8) -> u32
-    ensures { λ r. ⌜ r ≡ number4 frame at ⌝ }
+pub fn number4(bytes: &[u8], at: u8) -> u32
+    ensures { λ r. ⌜ ((size : ℕ) → r ≡ number4 (frameIn size (now (bytes .entry))) at) ⌝ }
 {
     let i = wide(at);
-    let high = word(byte(frame, i)) * 256 + word(byte(frame, i + 1));
-    (high * 256 + word(byte(frame, i + 2))) * 256 + word(byte(frame, i + 3))
+    let high = word(byte(bytes, i)) * 256 + word(byte(bytes, i + 1));
+    (high * 256 + word(byte(bytes, i + 2))) * 256 + word(byte(bytes, i + 3))
 }
 
 // Whether the table has the type, with a payload of this size.
@@ -144,11 +138,11 @@ pub fn may_follow(last: u8, kind: u8) -> bool
 }
 
 // Whether the role's kind and id are in range.
-pub fn is_good_role(frame: lines::Frame) -> bool
-    ensures { λ r. ⌜ r ≡ goodRole (roleFrom frame) ⌝ }
+pub fn is_good_role(bytes: &[u8]) -> bool
+    ensures { λ r. ⌜ ((size : ℕ) → r ≡ goodRole (roleFrom (frameIn size (now (bytes .entry))))) ⌝ }
 {
-    let kind = byte(frame, 1);
-    let id = number4(frame, 2);
+    let kind = byte(bytes, 1);
+    let id = number4(bytes, 2);
     if kind == 0x75 {
         return id != gran::NO_ID;
     }
@@ -165,11 +159,11 @@ pub fn is_good_role(frame: lines::Frame) -> bool
 }
 
 // Whether a 7f counts other than the lines before it.
-pub fn is_miscounted(lines: usize, frame: lines::Frame) -> bool
-    ensures { λ r. ⌜ r ≡ miscounts lines frame ⌝ }
+pub fn is_miscounted(lines: usize, bytes: &[u8]) -> bool
+    ensures { λ r. ⌜ ((size : ℕ) → r ≡ miscounts lines (frameIn size (now (bytes .entry)))) ⌝ }
 {
-    if byte(frame, 0) == 0x7f {
-        return number2(frame, 1) != lines;
+    if byte(bytes, 0) == 0x7f {
+        return number2(bytes, 1) != lines;
     }
     false
 }

@@ -11,7 +11,7 @@ use lib.ListN.{length, take, drop, length-drop}
 use lib.Seq.{drop-drop}
 use Rattle.paths.proofs.Bools.{left, right}
 use Rattle.lines.specs.declared.Frame.{Frame}
-use Rattle.lines.specs.Line.{lineLength, decoded}
+use Rattle.lines.specs.Line.{lineLength, firstLine, decoded}
 use Rattle.lines.proofs.Lines.{line-within}
 use Rattle.lines.proofs.Decoding.{size-good}
 use Rattle.load.proofs.AllLines.{tail-is}
@@ -28,9 +28,9 @@ module _ (input : List ℕ) (at size : ℕ) (e : size ≡ lineLength (take (leng
   pub line-ends : at ≤ length input → at + size ≤ length input
   line-ends h = omega (arith, size-is, line-within (drop at input), length-drop at input)
 
-  pub line-read : at ≤ length input → (f : Frame) → f ≡ decoded (take (at + size - at) (drop at input)) → LineAt input at (record { frame = f; end = at + size })
+  pub line-read : at ≤ length input → (f : Frame) → f ≡ decoded (firstLine (take (length input - at) (drop at input))) → LineAt input at (record { frame = f; end = at + size })
   line-read h f d = record {
-    frame = rw (size-is) at (let same : at + size - at ≡ size = omega arith in rw same at d);
+    frame = rw (tail-is input at) at d;
     end = rw size-is;
     within = line-ends h;
   }

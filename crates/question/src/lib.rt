@@ -21,7 +21,7 @@ fn line_at(input: &[u8], at: usize) -> Line
     ensures { λ r. ⌜ LineAt (now (input .entry)) at r ⌝ }
 {
     let end = at + lines::line_length(&input[at..]);
-    let frame = lines::decode(&input[at..end]);
+    let frame = lines::decode(&input[at..]);
     Line { frame, end }
 }
 
@@ -29,7 +29,7 @@ fn line_at(input: &[u8], at: usize) -> Line
 fn fits(f: Frame, kind: u8, shortest: usize, longest: usize) -> bool
     ensures { λ r. ⌜ r ≡ fits kind shortest longest f ⌝ }
 {
-    if frame::byte(f, 0) != kind {
+    if frame::byte(&f.bytes, 0) != kind {
         return false;
     }
     let size = f.size;
@@ -74,9 +74,10 @@ fn respond(text: &[u8], question: Frame, start: Frame, target: Frame, output: &m
 {
     let mut store = fresh_store();
     let mut work = fresh_work();
-    let uid = frame::number4(question, 2);
-    let gid = frame::number4(question, 6);
-    let kind = frame::byte(question, 1);
+    let asked = question.bytes;
+    let uid = frame::number4(&asked, 2);
+    let gid = frame::number4(&asked, 6);
+    let kind = frame::byte(&asked, 1);
     let from = start.bytes;
     let from_end = start.size;
     let to = target.bytes;

@@ -10,8 +10,8 @@ use Rattle.lines.proofs.Rooms.{length-zeros}
 use Rattle.judge.specs.Judge.{Answers}
 use Rattle.gran.specs.Policy.{Policy}
 use Rattle.gran.specs.Match.{subjects}
+use Rattle.store.proofs.Marks.{Marked, marks-begin, marks-next, marks-end}
 use Rattle.ending.proofs.Stored.{subjects-long, subject-at}
-use Rattle.ending.proofs.Marks.{Marked, marks-begin, marks-next, marks-end}
 use Rattle.ending.proofs.subject_marks.Statement.{statement}
 use Rattle.ending.proofs.subject_marks.Tie as tie
 

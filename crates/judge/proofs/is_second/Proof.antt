@@ -68,35 +68,35 @@ has-gid-requires c κs = search needs
 
 returns : tie.Need-returns
 unfolding isSecond
-returns c = λ P rest sound h. rw (← c .before .before .before .before .byte .ensures, c .before .before .before .match .keys1, ← c .before .before .byte2 .ensures, ← c .before .number4 .ensures) (c .has-role .ensures P rest sound h)
+returns c = λ P rest sound h noted. rw (← c .before .before .before .before .byte .ensures, c .before .before .before .match .keys1, ← c .before .before .byte2 .ensures, ← c .before .number4 .ensures) (c .has-role .ensures P rest sound h)
 
 returns-2 : tie.Need-returns-2
 unfolding isSecond pathFrom
-returns-2 c = λ P rest sound h. rw (← c .before .before .before .before .before .byte .ensures, c .before .before .before .before .match .keys2) (c .has-path .ensures P rest sound h)
+returns-2 c = λ P rest sound h noted. rw (← c .before .before .before .byte .ensures, c .before .before .match .keys2) (c .has-path .ensures P rest sound h noted)
 
 returns-3 : tie.Need-returns-3
 unfolding isSecond
-returns-3 c = λ P rest sound h. rw (← c .before .before .before .before .byte .ensures, c .before .before .before .match .keys3, ← c .before .before .byte3 .ensures, ← c .before .byte4 .ensures) (c .has-move .ensures P rest sound h)
+returns-3 c = λ P rest sound h noted. rw (← c .before .before .before .before .byte .ensures, c .before .before .before .match .keys3, ← c .before .before .byte3 .ensures, ← c .before .byte4 .ensures) (c .has-move .ensures P rest sound h)
 
 returns-4 : tie.Need-returns-4
 unfolding isSecond
-returns-4 c = λ P rest sound h. rw (← c .before .before .before .before .byte .ensures, c .before .before .before .match .keys4, ← c .before .before .byte5 .ensures, ← c .before .byte6 .ensures) (c .has-entry .ensures P rest sound h)
+returns-4 c = λ P rest sound h noted. rw (← c .before .before .before .before .byte .ensures, c .before .before .before .match .keys4, ← c .before .before .byte5 .ensures, ← c .before .byte6 .ensures) (c .has-entry .ensures P rest sound h)
 
 returns-5 : tie.Need-returns-5
 unfolding isSecond
-returns-5 c = λ P rest sound h. rw (← c .before .before .before .byte .ensures, c .before .before .match .keys5, ← c .before .byte7 .ensures) (c .has-object .ensures P rest sound h)
+returns-5 c = λ P rest sound h noted. rw (← c .before .before .before .byte .ensures, c .before .before .match .keys5, ← c .before .byte7 .ensures) (c .has-object .ensures P rest sound h)
 
 returns-6 : tie.Need-returns-6
 unfolding isSecond
-returns-6 c = λ P rest sound h. rw (← c .before .before .before .byte .ensures, c .before .before .match .keys6, ← c .before .number42 .ensures) (c .has-uid .ensures P rest sound h)
+returns-6 c = λ P rest sound h noted. rw (← c .before .before .before .byte .ensures, c .before .before .match .keys6, ← c .before .number42 .ensures) (c .has-uid .ensures P rest sound h)
 
 returns-7 : tie.Need-returns-7
 unfolding isSecond
-returns-7 c = λ P rest sound h. rw (← c .before .before .before .byte .ensures, c .before .before .match .keys7, ← c .before .number43 .ensures) (c .has-gid .ensures P rest sound h)
+returns-7 c = λ P rest sound h noted. rw (← c .before .before .before .byte .ensures, c .before .before .match .keys7, ← c .before .number43 .ensures) (c .has-gid .ensures P rest sound h)
 
 returns-8 : tie.Need-returns-8
 unfolding isSecond
-returns-8 c P rest sound h =
+returns-8 c P rest sound h noted =
     rw (
       ← c .before .byte .ensures,
       ne-eqb _ _ (c .match .rest .0 .0 .0 .0 .0 .0 .1),

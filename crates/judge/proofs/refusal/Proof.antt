@@ -17,9 +17,9 @@ fits-type-requires c κs = search needs
 
 returns : tie.Need-returns
 unfolding frameRefusal
-returns c = λ P rest sound h.
+returns c = λ P rest sound h noted.
     rw (
-      ← c .before .before .before .byte .ensures,
+      ← c .before .before .byte .ensures,
       ← c .before .fits-type .ensures,
       not-true (c .before .fits-type .result) (c .if1 .taken),
     )
@@ -29,9 +29,9 @@ may-follow-requires c κs = search needs
 
 returns-2 : tie.Need-returns-2
 unfolding frameRefusal
-returns-2 c = λ P rest sound h.
+returns-2 c = λ P rest sound h noted.
     rw (
-      ← c .before .before .before .before .before .byte .ensures,
+      ← c .before .before .before .before .byte .ensures,
       ← c .before .before .before .fits-type .ensures,
       not-false (c .before .before .before .fits-type .result) (c .before .before .if1 .left),
       ← c .before .may-follow .ensures,
@@ -43,9 +43,9 @@ in-range-requires c κs = search needs
 
 returns-3 : tie.Need-returns-3
 unfolding frameRefusal
-returns-3 c = λ P rest sound h.
+returns-3 c = λ P rest sound h noted.
     rw (
-      ← c .before .before .before .before .before .before .before .byte .ensures,
+      ← c .before .before .before .before .before .before .byte .ensures,
       ← c .before .before .before .before .before .fits-type .ensures,
       not-false (c .before .before .before .before .before .fits-type .result) (c .before .before .before .before .if1 .left),
       ← c .before .before .before .may-follow .ensures,
@@ -59,16 +59,16 @@ is-second-requires c κs = search needs
 
 returns-4 : tie.Need-returns-4
 unfolding frameRefusal
-returns-4 c = λ P rest sound h.
+returns-4 c = λ P rest sound h noted.
     rw (
-      ← c .before .before .before .before .before .before .before .before .before .byte .ensures,
+      ← c .before .before .before .before .before .before .before .before .byte .ensures,
       ← c .before .before .before .before .before .before .before .fits-type .ensures,
       not-false (c .before .before .before .before .before .before .before .fits-type .result) (c .before .before .before .before .before .before .if1 .left),
       ← c .before .before .before .before .before .may-follow .ensures,
       not-false (c .before .before .before .before .before .may-follow .result) (c .before .before .before .before .if2 .left),
       ← c .before .before .before .in-range .ensures P rest sound h,
       not-false (c .before .before .before .in-range .result) (c .before .before .if3 .left),
-      ← c .before .is-second .ensures P rest sound h,
+      ← c .before .is-second .ensures P rest sound h noted,
       c .if4 .taken,
     )
 
@@ -77,16 +77,16 @@ is-full-requires c κs = search needs
 
 returns-5 : tie.Need-returns-5
 unfolding frameRefusal
-returns-5 c = λ P rest sound h.
+returns-5 c = λ P rest sound h noted.
     rw (
-      ← c .before .before .before .before .before .before .before .before .before .before .before .byte .ensures,
+      ← c .before .before .before .before .before .before .before .before .before .before .byte .ensures,
       ← c .before .before .before .before .before .before .before .before .before .fits-type .ensures,
       not-false (c .before .before .before .before .before .before .before .before .before .fits-type .result) (c .before .before .before .before .before .before .before .before .if1 .left),
       ← c .before .before .before .before .before .before .before .may-follow .ensures,
       not-false (c .before .before .before .before .before .before .before .may-follow .result) (c .before .before .before .before .before .before .if2 .left),
       ← c .before .before .before .before .before .in-range .ensures P rest sound h,
       not-false (c .before .before .before .before .before .in-range .result) (c .before .before .before .before .if3 .left),
-      ← c .before .before .before .is-second .ensures P rest sound h,
+      ← c .before .before .before .is-second .ensures P rest sound h noted,
       c .before .before .if4 .left,
       ← c .before .is-full .ensures P rest _ h,
       c .if5 .taken,
@@ -97,16 +97,16 @@ is-miscounted-requires c κs = search needs
 
 returns-6 : tie.Need-returns-6
 unfolding frameRefusal
-returns-6 c = λ P rest sound h.
+returns-6 c = λ P rest sound h noted.
     rw (
-      ← c .before .before .before .before .before .before .before .before .before .before .before .before .before .byte .ensures,
+      ← c .before .before .before .before .before .before .before .before .before .before .before .before .byte .ensures,
       ← c .before .before .before .before .before .before .before .before .before .before .before .fits-type .ensures,
       not-false (c .before .before .before .before .before .before .before .before .before .before .before .fits-type .result) (c .before .before .before .before .before .before .before .before .before .before .if1 .left),
       ← c .before .before .before .before .before .before .before .before .before .may-follow .ensures,
       not-false (c .before .before .before .before .before .before .before .before .before .may-follow .result) (c .before .before .before .before .before .before .before .before .if2 .left),
       ← c .before .before .before .before .before .before .before .in-range .ensures P rest sound h,
       not-false (c .before .before .before .before .before .before .before .in-range .result) (c .before .before .before .before .before .before .if3 .left),
-      ← c .before .before .before .before .before .is-second .ensures P rest sound h,
+      ← c .before .before .before .before .before .is-second .ensures P rest sound h noted,
       c .before .before .before .before .if4 .left,
       ← c .before .before .before .is-full .ensures P rest _ h,
       c .before .before .if5 .left,
@@ -116,16 +116,16 @@ returns-6 c = λ P rest sound h.
 
 returns-7 : tie.Need-returns-7
 unfolding frameRefusal
-returns-7 c = λ P rest sound h.
+returns-7 c = λ P rest sound h noted.
     rw (
-      ← c .before .before .before .before .before .before .before .before .before .before .before .before .before .byte .ensures,
+      ← c .before .before .before .before .before .before .before .before .before .before .before .before .byte .ensures,
       ← c .before .before .before .before .before .before .before .before .before .before .before .fits-type .ensures,
       not-false (c .before .before .before .before .before .before .before .before .before .before .before .fits-type .result) (c .before .before .before .before .before .before .before .before .before .before .if1 .left),
       ← c .before .before .before .before .before .before .before .before .before .may-follow .ensures,
       not-false (c .before .before .before .before .before .before .before .before .before .may-follow .result) (c .before .before .before .before .before .before .before .before .if2 .left),
       ← c .before .before .before .before .before .before .before .in-range .ensures P rest sound h,
       not-false (c .before .before .before .before .before .before .before .in-range .result) (c .before .before .before .before .before .before .if3 .left),
-      ← c .before .before .before .before .before .is-second .ensures P rest sound h,
+      ← c .before .before .before .before .before .is-second .ensures P rest sound h noted,
       c .before .before .before .before .if4 .left,
       ← c .before .before .before .is-full .ensures P rest _ h,
       c .before .before .if5 .left,

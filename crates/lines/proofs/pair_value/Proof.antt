@@ -1,43 +1,52 @@
--- `lines::pair_value` meets its contract: the values of the two digits pick the case of `pairValue`.
+-- `lines::pair_value` meets its contract: the sum of the two values says whether both are digits.
 -- Assumes nothing.
+use mathlib.Core.Path.{ap₂}
+use Prim.Native.Nat.{ℕ, _+_, _*_}
+use native.Mathlib.Omega.{arith}
 use borrow.Author.Needs.{needs}
-use borrow.Author.Tests.{le-ltb, lt-ltb}
-use Rattle.lines.specs.Line.{pairValue}
+use Rattle.lines.proofs.Values.{value-most, pair-sum}
 use Rattle.lines.proofs.pair_value.Statement.{statement}
 use Rattle.lines.proofs.pair_value.Tie as tie
 
-hex-value-requires : tie.Need-hex-value-requires
-hex-value-requires c κs = search needs
+mul-value : tie.Need-mul-value
+mul-value c = search needs
+
+element-copy-out-value : tie.Need-element-copy-out-value
+element-copy-out-value c = search needs
+
+mul-value-2 : tie.Need-mul-value-2
+mul-value-2 c = let s = c .before in omega (arith, value-most (s .args .values .now) (s .pre) (s .args .a) (search needs))
+
+mul-value-3 : tie.Need-mul-value-3
+mul-value-3 c = search needs
+
+element-copy-out-value-2 : tie.Need-element-copy-out-value-2
+element-copy-out-value-2 c = search needs
+
+add-value : tie.Need-add-value
+add-value c =
+    let s = c .before .before in
+    omega (arith, value-most (s .args .values .now) (s .pre) (s .args .a) (search needs), value-most (s .args .values .now) (s .pre) (s .args .b) (search needs))
 
 returns : tie.Need-returns
-unfolding pairValue
-returns c = simp (← c .before .hex-value .ensures, lt-ltb _ _ (c .if1 .taken))
-
-hex-value-requires-2 : tie.Need-hex-value-requires-2
-hex-value-requires-2 c κs = search needs
+returns c =
+    let s = c .before .before .before in
+    pair-sum (s .args .a) (s .args .b) _ (ap₂ (λ (x y : ℕ). x * 16 + y) (s .pre .is (s .args .a) (search needs)) (s .pre .is (s .args .b) (search needs))) .0 (c .if1 .taken)
 
 returns-2 : tie.Need-returns-2
-unfolding pairValue
-returns-2 c = simp (← c .before .before .before .hex-value .ensures, ← c .before .hex-value2 .ensures, le-ltb _ _ (c .before .before .if1 .left), lt-ltb _ _ (c .if2 .taken))
-
-mul-result : tie.Need-mul-result
-mul-result c = search needs
-
-add-result : tie.Need-add-result
-add-result c = search needs
-
-returns-3 : tie.Need-returns-3
-unfolding pairValue
-returns-3 c = simp (← c .before .before .before .hex-value .ensures, ← c .before .hex-value2 .ensures, le-ltb _ _ (c .before .before .if1 .left), le-ltb _ _ (c .if2 .left))
+returns-2 c =
+    let s = c .before .before .before in
+    pair-sum (s .args .a) (s .args .b) _ (ap₂ (λ (x y : ℕ). x * 16 + y) (s .pre .is (s .args .a) (search needs)) (s .pre .is (s .args .b) (search needs))) .1 (c .if1 .left)
 
 pub pair-value-spec : {M : Type 1} → statement M
 pair-value-spec =
     tie.close
     (tie.spec
-    hex-value-requires
+    mul-value
+    element-copy-out-value
+    mul-value-2
+    mul-value-3
+    element-copy-out-value-2
+    add-value
     returns
-    hex-value-requires-2
-    returns-2
-    mul-result
-    add-result
-    returns-3)
+    returns-2)

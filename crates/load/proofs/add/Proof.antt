@@ -1,6 +1,7 @@
 -- `load::add` meets its contract: at each arm the type picks the writer.
 -- Assumes nothing.
 use mathlib.Core.Path.{_∙_, sym}
+use Rattle.policy.specs.Frames.{frameIn}
 use Rattle.load.proofs.Framing.{role-room, path-room, move-room, entry-room, object-room, uid-room, gid-room, role-added, path-added, move-added, entry-added, object-added, uid-added, gid-added, none-added}
 use borrow.Author.Needs.{needs}
 use Rattle.load.proofs.add.Statement.{statement}
@@ -17,8 +18,8 @@ number4-requires c κs = search needs
 
 add-role-requires : tie.Need-add-role-requires
 add-role-requires c κs =
-    let s = c .before .before .before .before .before .before in (
-      role-room (s .args .t) (s .args .frame) (s .pre .0) (sym (c .before .before .before .before .byte .ensures) ∙ c .before .before .before .match .keys1) (c .before .byte2 .ensures),
+    let s = c .before .before .before .before .before .before .before in (
+      role-room (s .args .t) (frameIn (s .args .size) (s .args .bytes .now)) (s .pre .0) (sym (c .before .before .before .before .byte .ensures) ∙ c .before .before .before .match .keys1) (c .before .byte2 .ensures),
       s .pre .1,
     )
 
@@ -33,8 +34,8 @@ part-add-path-end c = search needs
 
 add-path-requires : tie.Need-add-path-requires
 add-path-requires c κs =
-    let s = c .before .before .before .before .before .before .before in
-    (path-room (s .args .t) (s .args .frame) (s .pre .0) (sym (c .before .before .before .before .before .byte .ensures) ∙ c .before .before .before .before .match .keys2), s .pre .1)
+    let s = c .before .before .before .before .before .before in
+    (path-room (s .args .t) (frameIn (s .args .size) (s .args .bytes .now)) (s .pre .0) (sym (c .before .before .before .byte .ensures) ∙ c .before .before .match .keys2), s .pre .1)
 
 byte-requires-3 : tie.Need-byte-requires-3
 byte-requires-3 c κs = search needs
@@ -44,8 +45,8 @@ byte-requires-4 c κs = search needs
 
 add-move-requires : tie.Need-add-move-requires
 add-move-requires c κs =
-    let s = c .before .before .before .before .before .before in
-    (move-room (s .args .t) (s .args .frame) (s .pre .0) (sym (c .before .before .before .before .byte .ensures) ∙ c .before .before .before .match .keys3), s .pre .1)
+    let s = c .before .before .before .before .before .before .before in
+    (move-room (s .args .t) (frameIn (s .args .size) (s .args .bytes .now)) (s .pre .0) (sym (c .before .before .before .before .byte .ensures) ∙ c .before .before .before .match .keys3), s .pre .1)
 
 byte-requires-5 : tie.Need-byte-requires-5
 byte-requires-5 c κs = search needs
@@ -64,8 +65,8 @@ byte-requires-9 c κs = search needs
 
 add-entry-requires : tie.Need-add-entry-requires
 add-entry-requires c κs =
-    let s = c .before .before .before .before .before .before .before .before .before in (
-      entry-room (s .args .t) (s .args .frame) (s .pre .0)
+    let s = c .before .before .before .before .before .before .before .before .before .before in (
+      entry-room (s .args .t) (frameIn (s .args .size) (s .args .bytes .now)) (s .pre .0)
           (sym (c .before .before .before .before .before .before .before .byte .ensures) ∙ c .before .before .before .before .before .before .match .keys4) (c .before .before .byte8 .ensures)
           (c .before .byte9 .ensures),
       s .pre .1,
@@ -79,8 +80,8 @@ byte-requires-11 c κs = search needs
 
 add-object-requires : tie.Need-add-object-requires
 add-object-requires c κs =
-    let s = c .before .before .before .before .before .before in
-    let r = object-room (s .args .t) (s .args .frame) (s .pre .0) (sym (c .before .before .before .before .byte .ensures) ∙ c .before .before .before .match .keys5) in
+    let s = c .before .before .before .before .before .before .before in
+    let r = object-room (s .args .t) (frameIn (s .args .size) (s .args .bytes .now)) (s .pre .0) (sym (c .before .before .before .before .byte .ensures) ∙ c .before .before .before .match .keys5) in
     (r .0, (r .1, s .pre .1))
 
 number4-requires-2 : tie.Need-number4-requires-2
@@ -88,8 +89,8 @@ number4-requires-2 c κs = search needs
 
 add-uid-requires : tie.Need-add-uid-requires
 add-uid-requires c κs =
-    let s = c .before .before .before .before .before in
-    let r = uid-room (s .args .t) (s .args .frame) (s .pre .0) (sym (c .before .before .before .byte .ensures) ∙ c .before .before .match .keys6) in
+    let s = c .before .before .before .before .before .before in
+    let r = uid-room (s .args .t) (frameIn (s .args .size) (s .args .bytes .now)) (s .pre .0) (sym (c .before .before .before .byte .ensures) ∙ c .before .before .match .keys6) in
     (r .0, (r .1, s .pre .1))
 
 number4-requires-3 : tie.Need-number4-requires-3
@@ -97,8 +98,8 @@ number4-requires-3 c κs = search needs
 
 add-gid-requires : tie.Need-add-gid-requires
 add-gid-requires c κs =
-    let s = c .before .before .before .before .before in
-    let r = gid-room (s .args .t) (s .args .frame) (s .pre .0) (sym (c .before .before .before .byte .ensures) ∙ c .before .before .match .keys7) in
+    let s = c .before .before .before .before .before .before in
+    let r = gid-room (s .args .t) (frameIn (s .args .size) (s .args .bytes .now)) (s .pre .0) (sym (c .before .before .before .byte .ensures) ∙ c .before .before .match .keys7) in
     (r .0, (r .1, s .pre .1))
 
 same-length : tie.Need-same-length
@@ -106,19 +107,19 @@ same-length c = search needs
 
 returns : tie.Need-returns
 returns c =
-    let s = c .before .before .before .before .before .before .before .before .before in
-    role-added (s .args .frame) (s .args .t) (s .args .store .now) _ _
+    let s = c .before .before .before .before .before .before .before .before .before .before in
+    role-added (frameIn (s .args .size) (s .args .bytes .now)) (s .args .t) (s .args .store .now) _ _
     (sym (c .before .before .before .before .before .before .before .byte .ensures) ∙ c .before .before .before .before .before .before .match .keys1)
-    (c .before .before .before .before .byte2 .ensures) (c .before .before .before .number4 .ensures) (c .before .before .add-role .ensures)
+    (c .before .before .before .before .byte2 .ensures) (c .before .before .before .number4 .ensures _) (c .before .before .add-role .ensures)
 
 same-length-2 : tie.Need-same-length-2
 same-length-2 c = search needs
 
 returns-2 : tie.Need-returns-2
 returns-2 c =
-    let s = c .before .before .before .before .before .before .before .before .before .before in
-    path-added (s .args .frame) (s .args .t) (s .args .store .now) _ _
-    (sym (c .before .before .before .before .before .before .before .before .byte .ensures) ∙ c .before .before .before .before .before .before .before .match .keys2)
+    let s = c .before .before .before .before .before .before .before .before .before in
+    path-added (frameIn (s .args .size) (s .args .bytes .now)) (s .args .t) (s .args .store .now) _ _
+    (sym (c .before .before .before .before .before .before .byte .ensures) ∙ c .before .before .before .before .before .match .keys2)
     (c .before .before .add-path .ensures)
 
 same-length-3 : tie.Need-same-length-3
@@ -126,8 +127,8 @@ same-length-3 c = search needs
 
 returns-3 : tie.Need-returns-3
 returns-3 c =
-    let s = c .before .before .before .before .before .before .before .before .before in
-    move-added (s .args .frame) (s .args .t) (s .args .store .now) _ _
+    let s = c .before .before .before .before .before .before .before .before .before .before in
+    move-added (frameIn (s .args .size) (s .args .bytes .now)) (s .args .t) (s .args .store .now) _ _
     (sym (c .before .before .before .before .before .before .before .byte .ensures) ∙ c .before .before .before .before .before .before .match .keys3)
     (c .before .before .before .before .byte3 .ensures) (c .before .before .before .byte4 .ensures) (c .before .before .add-move .ensures)
 
@@ -136,8 +137,8 @@ same-length-4 c = search needs
 
 returns-4 : tie.Need-returns-4
 returns-4 c =
-    let s = c .before .before .before .before .before .before .before .before .before .before .before .before in
-    entry-added (s .args .frame) (s .args .t) (s .args .store .now) _ _
+    let s = c .before .before .before .before .before .before .before .before .before .before .before .before .before in
+    entry-added (frameIn (s .args .size) (s .args .bytes .now)) (s .args .t) (s .args .store .now) _ _
     (sym (c .before .before .before .before .before .before .before .before .before .before .byte .ensures) ∙ c .before .before .before .before .before .before .before .before .before .match .keys4)
     (c .before .before .before .before .before .before .before .before .byte5 .ensures) (c .before .before .before .before .before .before .before .byte6 .ensures)
     (c .before .before .before .before .before .before .byte7 .ensures) (c .before .before .before .before .before .byte8 .ensures) (c .before .before .before .before .byte9 .ensures)
@@ -148,8 +149,8 @@ same-length-5 c = search needs
 
 returns-5 : tie.Need-returns-5
 returns-5 c =
-    let s = c .before .before .before .before .before .before .before .before .before in
-    object-added (s .args .frame) (s .args .t) (s .args .store .now) _ _
+    let s = c .before .before .before .before .before .before .before .before .before .before in
+    object-added (frameIn (s .args .size) (s .args .bytes .now)) (s .args .t) (s .args .store .now) _ _
     (sym (c .before .before .before .before .before .before .before .byte .ensures) ∙ c .before .before .before .before .before .before .match .keys5)
     (c .before .before .before .before .byte10 .ensures) (c .before .before .before .byte11 .ensures) (c .before .before .add-object .ensures)
 
@@ -158,9 +159,9 @@ same-length-6 c = search needs
 
 returns-6 : tie.Need-returns-6
 returns-6 c =
-    let s = c .before .before .before .before .before .before .before .before in
-    uid-added (s .args .frame) (s .args .t) (s .args .store .now) _ _
-    (sym (c .before .before .before .before .before .before .byte .ensures) ∙ c .before .before .before .before .before .match .keys6) (c .before .before .before .number42 .ensures)
+    let s = c .before .before .before .before .before .before .before .before .before in
+    uid-added (frameIn (s .args .size) (s .args .bytes .now)) (s .args .t) (s .args .store .now) _ _
+    (sym (c .before .before .before .before .before .before .byte .ensures) ∙ c .before .before .before .before .before .match .keys6) (c .before .before .before .number42 .ensures _)
     (c .before .before .add-uid .ensures)
 
 same-length-7 : tie.Need-same-length-7
@@ -168,17 +169,17 @@ same-length-7 c = search needs
 
 returns-7 : tie.Need-returns-7
 returns-7 c =
-    let s = c .before .before .before .before .before .before .before .before in
-    gid-added (s .args .frame) (s .args .t) (s .args .store .now) _ _
-    (sym (c .before .before .before .before .before .before .byte .ensures) ∙ c .before .before .before .before .before .match .keys7) (c .before .before .before .number43 .ensures)
+    let s = c .before .before .before .before .before .before .before .before .before in
+    gid-added (frameIn (s .args .size) (s .args .bytes .now)) (s .args .t) (s .args .store .now) _ _
+    (sym (c .before .before .before .before .before .before .byte .ensures) ∙ c .before .before .before .before .before .match .keys7) (c .before .before .before .number43 .ensures _)
     (c .before .before .add-gid .ensures)
 
 returns-8 : tie.Need-returns-8
 returns-8 c =
-    let s = c .before .before .before in
+    let s = c .before .before .before .before in
     let e = c .before .byte .ensures in
     let r = c .match .rest in
-    none-added (s .args .frame) (s .args .t) (s .args .store .now) (record {
+    none-added (frameIn (s .args .size) (s .args .bytes .now)) (s .args .t) (s .args .store .now) (record {
       not-10 = λ x. r .0 .0 .0 .0 .0 .0 .1 (e ∙ x);
       not-20 = λ x. r .0 .0 .0 .0 .0 .1 (e ∙ x);
       not-30 = λ x. r .0 .0 .0 .0 .1 (e ∙ x);

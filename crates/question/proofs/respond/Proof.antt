@@ -13,11 +13,20 @@ fresh-store-requires c κs = search needs
 fresh-work-requires : tie.Need-fresh-work-requires
 fresh-work-requires c κs = search needs
 
+slice-aggregate-number4 : tie.Need-slice-aggregate-number4
+slice-aggregate-number4 c = search needs
+
 number4-requires : tie.Need-number4-requires
 number4-requires c κs = search needs
 
+slice-aggregate-number4-2 : tie.Need-slice-aggregate-number4-2
+slice-aggregate-number4-2 c = search needs
+
 number4-requires-2 : tie.Need-number4-requires-2
 number4-requires-2 c κs = search needs
+
+slice-aggregate-byte : tie.Need-slice-aggregate-byte
+slice-aggregate-byte c = search needs
 
 byte-requires : tie.Need-byte-requires
 byte-requires c κs = search needs
@@ -58,16 +67,17 @@ same-length c = search needs
 returns : tie.Need-returns
 unfolding pathFrom
 returns c =
+    let s = c .before .before .before .before .before .before .before .before .before .before .before .before .before .before .before .before .before .before .before .before .before .before .before .before .before .before .before .before .before in
     responded
-    (c .before .before .before .before .before .before .before .before .before .before .before .before .before .before .before .before .before .before .before .before .before .before .before .before .before .args .text .now)
-    (askedBy (c .before .before .before .before .before .before .before .before .before .before .before .before .before .before .before .before .before .before .before .before .before .before .before .before .before .args .question) (c .before .before .before .before .before .before .before .before .before .before .before .before .before .before .before .before .before .before .before .before .before .before .before .before .before .args .start) (c .before .before .before .before .before .before .before .before .before .before .before .before .before .before .before .before .before .before .before .before .before .before .before .before .before .args .target))
-    (record { store = c .before .before .before .before .before .before .before .before .before .before .before .before .before .before .before .before .before .before .before .before .before .before .fresh-store .result; work = c .before .before .before .before .before .before .before .before .before .before .before .before .before .before .before .before .before .before .before .before .before .fresh-work .result; room = c .before .before .before .before .before .before .before .before .before .before .before .before .before .before .before .before .before .before .before .before .before .before .before .before .before .args .output .now })
+    (s .args .text .now)
+    (askedBy (s .args .question) (s .args .start) (s .args .target))
+    (record { store = c .before .before .before .before .before .before .before .before .before .before .before .before .before .before .before .before .before .before .before .before .before .before .before .before .before .before .fresh-store .result; work = c .before .before .before .before .before .before .before .before .before .before .before .before .before .before .before .before .before .before .before .before .before .before .before .before .before .fresh-work .result; room = s .args .output .now })
     _
     _
     _
     (search needs)
     (search needs)
-    (rw (c .before .before .before .before .before .before .before .before .before .before .before .before .before .before .before .before .before .before .before .before .number4 .ensures, c .before .before .before .before .before .before .before .before .before .before .before .before .before .before .before .before .before .before .before .number42 .ensures, c .before .before .before .before .before .before .before .before .before .before .before .before .before .before .before .before .before .before .byte .ensures) at (c .before .before .before .before .before .before .before .before .ask .ensures))
+    (rw (c .before .before .before .before .before .before .before .before .before .before .before .before .before .before .before .before .before .before .before .before .before .before .number4 .ensures (s .args .question .size), c .before .before .before .before .before .before .before .before .before .before .before .before .before .before .before .before .before .before .before .before .number42 .ensures (s .args .question .size), c .before .before .before .before .before .before .before .before .before .before .before .before .before .before .before .before .before .before .byte .ensures) at (c .before .before .before .before .before .before .before .before .ask .ensures))
     (c .before .before .tell .ensures)
 
 pub respond-spec : {M : Type 1} → statement M
@@ -76,8 +86,11 @@ respond-spec =
     (tie.spec
     fresh-store-requires
     fresh-work-requires
+    slice-aggregate-number4
     number4-requires
+    slice-aggregate-number4-2
     number4-requires-2
+    slice-aggregate-byte
     byte-requires
     slice-aggregate-ask
     slice-aggregate-ask-2

@@ -49,31 +49,31 @@ returns c = λ P rest sound h. rw (← c .before .before .byte .ensures, c .befo
 
 returns-2 : tie.Need-returns-2
 unfolding inRange
-returns-2 c = λ P rest sound h. rw (← c .before .before .byte .ensures, c .before .match .keys2) (c .is-good-role .ensures)
+returns-2 c = λ P rest sound h. rw (← c .before .before .byte .ensures, c .before .match .keys2) (c .is-good-role .ensures _)
 
 returns-3 : tie.Need-returns-3
 unfolding inRange pathFrom
-returns-3 c = λ P rest sound h. rw (← c .before .before .before .before .before .byte .ensures, c .before .before .before .before .match .keys3) (c .good-path .ensures)
+returns-3 c = λ P rest sound h. rw (← c .before .before .before .byte .ensures, c .before .before .match .keys3) (c .good-path .ensures)
 
 returns-4 : tie.Need-returns-4
 unfolding inRange
-returns-4 c = λ P rest sound h. rw (← c .before .before .byte .ensures, c .before .match .keys4) (c .is-good-move .ensures P rest sound h)
+returns-4 c = λ P rest sound h. rw (← c .before .before .byte .ensures, c .before .match .keys4) (c .is-good-move .ensures P rest sound h (c .before .before .before .before .before .args .size))
 
 returns-5 : tie.Need-returns-5
 unfolding inRange
-returns-5 c = λ P rest sound h. rw (← c .before .before .byte .ensures, c .before .match .keys5) (c .is-good-entry .ensures P rest _ h)
+returns-5 c = λ P rest sound h. rw (← c .before .before .byte .ensures, c .before .match .keys5) (c .is-good-entry .ensures P rest _ h (c .before .before .before .before .before .args .size))
 
 returns-6 : tie.Need-returns-6
 unfolding inRange
-returns-6 c = λ P rest sound h. rw (← c .before .before .byte .ensures, c .before .match .keys6) (c .is-good-object .ensures P rest _ h)
+returns-6 c = λ P rest sound h. rw (← c .before .before .byte .ensures, c .before .match .keys6) (c .is-good-object .ensures P rest _ h (c .before .before .before .before .before .args .size))
 
 returns-7 : tie.Need-returns-7
 unfolding inRange
-returns-7 c = λ P rest sound h. rw (← c .before .before .byte .ensures, c .before .match .keys7) (c .is-good-id .ensures (lastEntry (P .entries) .users) (h .last-users))
+returns-7 c = λ P rest sound h. rw (← c .before .before .byte .ensures, c .before .match .keys7) (c .is-good-id .ensures (lastEntry (P .entries) .users) (h .last-users) _)
 
 returns-8 : tie.Need-returns-8
 unfolding inRange
-returns-8 c = λ P rest sound h. rw (← c .before .before .byte .ensures, c .before .match .keys8) (c .is-good-id2 .ensures (lastEntry (P .entries) .groups) (h .last-groups))
+returns-8 c = λ P rest sound h. rw (← c .before .before .byte .ensures, c .before .match .keys8) (c .is-good-id2 .ensures (lastEntry (P .entries) .groups) (h .last-groups) _)
 
 returns-9 : tie.Need-returns-9
 unfolding inRange

@@ -11,11 +11,11 @@ number4-requires c κs = search needs
 
 returns : tie.Need-returns
 unfolding goodId
-returns c = λ a e. rw (← c .before .number4 .ensures, c .if1 .taken)
+returns c = λ a e size. rw (← c .before .number4 .ensures size, c .if1 .taken)
 
 returns-2 : tie.Need-returns-2
 unfolding goodId
-returns-2 c = λ a e. rw (← c .before .number4 .ensures, ne-eqb _ _ (c .if1 .left), e)
+returns-2 c = λ a e size. rw (← c .before .number4 .ensures size, ne-eqb _ _ (c .if1 .left), e)
 
 pub is-good-id-spec : {M : Type 1} → statement M
 is-good-id-spec = tie.close (tie.spec number4-requires returns returns-2)

@@ -1,8 +1,8 @@
 -- `judge::range::is_good_move` meets its contract: each test is one of the definition's.
 -- Assumes nothing.
 use Rattle.judge.proofs.Found.{role-kind}
-use Rattle.policy.specs.Frames.{byteAt, goodMove}
-use lib.ListN.{length}
+use Rattle.policy.specs.Frames.{goodMove}
+use lib.ListN.{length, getD}
 use borrow.Author.Tests.{lt-ltb, le-ltb}
 use native.Mathlib.Omega.{arith}
 use borrow.Author.Needs.{needs}
@@ -32,16 +32,16 @@ wide-requires-2 c κs = search needs
 
 returns : tie.Need-returns
 unfolding goodMove
-returns c = λ P rest sound h. rw (le-ltb (byteAt (c .before .before .before .before .before .before .before .before .before .args .frame) 1) (length (P .roles)) (omega (arith, h .roles, c .before .before .before .wide .ensures .0, c .before .before .before .before .byte .ensures)))
+returns c = λ P rest sound h size. rw (le-ltb (getD (c .before .before .before .before .before .before .before .before .before .before .args .bytes .now) 1 0) (length (P .roles)) (omega (arith, h .roles, c .before .before .before .wide .ensures .0, c .before .before .before .before .byte .ensures)))
 
 returns-2 : tie.Need-returns-2
 unfolding goodMove
-returns-2 c P rest sound h =
-    let s = c .before .before .before .before .before .before .before .before .before .before in
+returns-2 c P rest sound h size =
+    let s = c .before .before .before .before .before .before .before .before .before .before .before in
     rw (
-      lt-ltb (byteAt (s .args .frame) 1) (length (P .roles))
+      lt-ltb (getD (s .args .bytes .now) 1 0) (length (P .roles))
           (omega (arith, h .roles, c .before .before .before .before .wide .ensures .0, c .before .before .before .before .before .byte .ensures)),
-      le-ltb (byteAt (s .args .frame) 2) (length (P .roles)) (omega (arith, h .roles, c .before .before .wide2 .ensures .0, c .before .before .before .byte2 .ensures)),
+      le-ltb (getD (s .args .bytes .now) 2 0) (length (P .roles)) (omega (arith, h .roles, c .before .before .wide2 .ensures .0, c .before .before .before .byte2 .ensures)),
     )
 
 mul-result : tie.Need-mul-result
@@ -55,13 +55,13 @@ shared-slice-read-result c = search needs
 
 returns-3 : tie.Need-returns-3
 unfolding goodMove
-returns-3 c P rest sound h =
-    let s = c .before .before .before .before .before .before .before .before .before .before .before in
+returns-3 c P rest sound h size =
+    let s = c .before .before .before .before .before .before .before .before .before .before .before .before in
     let kind = role-kind P rest (s .args .t) (s .args .store .now) (s .pre .0) h (c .before .before .before .wide2 .result) (omega (arith, h .roles)) in
     rw (
-      lt-ltb (byteAt (s .args .frame) 1) (length (P .roles))
+      lt-ltb (getD (s .args .bytes .now) 1 0) (length (P .roles))
           (omega (arith, h .roles, c .before .before .before .before .before .wide .ensures .0, c .before .before .before .before .before .before .byte .ensures)),
-      lt-ltb (byteAt (s .args .frame) 2) (length (P .roles)) (omega (arith, h .roles, c .before .before .before .wide2 .ensures .0, c .before .before .before .before .byte2 .ensures)),
+      lt-ltb (getD (s .args .bytes .now) 2 0) (length (P .roles)) (omega (arith, h .roles, c .before .before .before .wide2 .ensures .0, c .before .before .before .before .byte2 .ensures)),
       kind,
       c .before .before .before .wide2 .ensures .0,
       c .before .before .before .before .byte2 .ensures,

@@ -1,7 +1,7 @@
 -- `judge::range::is_good_object` meets its contract: each test is one of the definition's.
 -- Assumes nothing.
-use Rattle.policy.specs.Frames.{byteAt, goodObject}
-use lib.ListN.{length}
+use Rattle.policy.specs.Frames.{goodObject}
+use lib.ListN.{length, getD}
 use borrow.Author.Tests.{lt-ltb, le-ltb}
 use native.Mathlib.Omega.{arith}
 use borrow.Author.Needs.{needs}
@@ -16,14 +16,14 @@ wide-requires c κs = search needs
 
 returns : tie.Need-returns
 unfolding goodObject
-returns c = λ P rest bytes h. rw (le-ltb (byteAt (c .before .before .before .before .args .frame) 1) (length (P .paths)) (omega (arith, h .paths, c .before .before .wide .ensures .0, c .before .before .before .byte .ensures)))
+returns c = λ P rest held h size. rw (le-ltb (getD (c .before .before .before .before .before .args .bytes .now) 1 0) (length (P .paths)) (omega (arith, h .paths, c .before .before .wide .ensures .0, c .before .before .before .byte .ensures)))
 
 byte-requires-2 : tie.Need-byte-requires-2
 byte-requires-2 c κs = search needs
 
 returns-2 : tie.Need-returns-2
 unfolding goodObject
-returns-2 c = λ P rest bytes h. rw (lt-ltb (byteAt (c .before .before .before .before .before .args .frame) 1) (length (P .paths)) (omega (arith, h .paths, c .before .before .before .wide .ensures .0, c .before .before .before .before .byte .ensures)), ← c .byte2 .ensures)
+returns-2 c = λ P rest held h size. rw (lt-ltb (getD (c .before .before .before .before .before .before .args .bytes .now) 1 0) (length (P .paths)) (omega (arith, h .paths, c .before .before .before .wide .ensures .0, c .before .before .before .before .byte .ensures)), ← c .byte2 .ensures)
 
 pub is-good-object-spec : {M : Type 1} → statement M
 is-good-object-spec =

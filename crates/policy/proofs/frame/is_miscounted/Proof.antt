@@ -14,11 +14,11 @@ number2-requires c κs = search needs
 
 returns : tie.Need-returns
 unfolding miscounts
-returns c = rw (← c .before .before .byte .ensures, ← c .number2 .ensures, c .before .if1 .taken)
+returns c size = rw (← c .before .before .byte .ensures, ← c .number2 .ensures size, c .before .if1 .taken)
 
 returns-2 : tie.Need-returns-2
 unfolding miscounts
-returns-2 c = rw (← c .before .byte .ensures, ne-eqb _ _ (c .if1 .left))
+returns-2 c size = rw (← c .before .byte .ensures, ne-eqb _ _ (c .if1 .left))
 
 pub is-miscounted-spec : {M : Type 1} → statement M
 is-miscounted-spec = tie.close (tie.spec byte-requires number2-requires returns returns-2)

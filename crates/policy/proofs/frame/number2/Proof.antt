@@ -32,7 +32,7 @@ add-result c = search needs
 
 returns : tie.Need-returns
 unfolding number2
-returns c = rw (← c .before .before .before .before .wide .ensures .0) (omega arith)
+returns c size = rw (← c .before .before .before .before .wide .ensures .0) (omega arith)
 
 pub number2-spec : {M : Type 1} → statement M
 number2-spec =

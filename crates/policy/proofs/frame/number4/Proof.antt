@@ -62,7 +62,7 @@ add-result-2 c = search needs
 
 returns : tie.Need-returns
 unfolding number4
-returns c = rw (← c .before .before .before .before .before .before .before .before .wide .ensures .0) (omega arith)
+returns c size = rw (← c .before .before .before .before .before .before .before .before .wide .ensures .0) (omega arith)
 
 pub number4-spec : {M : Type 1} → statement M
 number4-spec =

@@ -1,11 +1,11 @@
--- `policy::frame::byte_at` meets its contract: past the end there is 0.
+-- `policy::frame::byte` meets its contract: past the end there is 0.
 -- Assumes nothing.
 use borrow.Author.Needs.{needs}
 use mathlib.Core.Path.{sym}
 use native.Mathlib.Omega.{arith}
 use lib.ListN.{List·getD-eq-default}
-use Rattle.policy.proofs.frame.byte_at.Statement.{statement}
-use Rattle.policy.proofs.frame.byte_at.Tie as tie
+use Rattle.policy.proofs.frame.byte.Statement.{statement}
+use Rattle.policy.proofs.frame.byte.Tie as tie
 
 shared-slice-read-result : tie.Need-shared-slice-read-result
 shared-slice-read-result c = search needs
@@ -16,5 +16,5 @@ returns c = search needs
 returns-2 : tie.Need-returns-2
 returns-2 c = sym (List·getD-eq-default (c .before .args .bytes .now) 0 {n = c .before .args .at} (omega arith))
 
-pub byte-at-spec : {M : Type 1} → statement M
-byte-at-spec = tie.close (tie.spec shared-slice-read-result returns returns-2)
+pub byte-spec : {M : Type 1} → statement M
+byte-spec = tie.close (tie.spec shared-slice-read-result returns returns-2)
