@@ -13,10 +13,10 @@ use lib.Seq.{getD-set-same, getD-set-other}
 use Rattle.paths.specs.Path.{goodPath}
 use Rattle.paths.proofs.Paths.{good-short}
 use Rattle.gran.specs.Policy.{Policy, Object}
-use Rattle.gran.specs.Match.{pathAt, subjectPath, objectPath, ofRole, noEntry, subjects, subjectsOf, subjectOf, objectsOf, objectIn, modesOf}
+use Rattle.gran.specs.Match.{pathAt, subjectPath, objectPath, ofRole, noEntry, subjectsOf, objectsOf, objectIn, modesOf}
 use Rattle.gran.specs.Good.{GoodObject}
 use Rattle.gran.proofs.Lists.{all-at}
-use Rattle.gran.proofs.Policies.{S-rooted, role-rooted, entry-rooted}
+use Rattle.gran.proofs.Policies.{role-rooted, entry-rooted}
 use Rattle.store.specs.Held.{Loaded}
 use Rattle.fields.specs.Fields.{entryCount, entrySubject, firstObject, objectCount, objectPathAt, objectModesAt}
 use Rattle.fields.proofs.Header.{entry-count}
@@ -24,10 +24,10 @@ use Rattle.fields.proofs.Paths.{path-read}
 use Rattle.fields.proofs.Entries.{entry-subject, entry-role, object-count, object-path, object-modes}
 use Rattle.lookup.specs.Best.{bestOf, gradeIn, gradeAt}
 use Rattle.lookup.specs.Lookup.{gradeOf, Graded, entryAt, InForce, Placed}
-use Rattle.lookup.specs.declared.Row.the-variants.{Subjects, OfRole, Objects}
+use Rattle.lookup.specs.declared.Row.the-variants.{OfRole, Objects}
 use Rattle.lookup.proofs.Search.{always, only-all}
-use Rattle.lookup.proofs.Picked.{Picked, picked, picked-graded}
-use Rattle.lookup.proofs.Matches.{noObject, good-entry, subject-picked, entry-picked, object-picked, placed-path, placed-modes}
+use Rattle.lookup.proofs.Picked.{picked}
+use Rattle.lookup.proofs.Matches.{noObject, good-entry, entry-picked, object-picked, placed-path, placed-modes}
 
 -- One place more of a list holds its value.
 pub filled : (xs : List ℕ) (a : ℕ → ℕ) (i v : ℕ) → i < length xs → v ≡ a i → ((k : ℕ) → k < i → getD xs k 0 ≡ a k) → (k : ℕ) → k < i + 1 → getD (set xs i v) k 0 ≡ a k
@@ -48,13 +48,6 @@ module _ {P : Policy} {rest s : List ℕ} (L : Loaded P rest s) (f : List ℕ) w
     subject-grade : (e : ℕ) → e < length (P .entries) → getD of (entrySubject s e) 0 ≡ gradeOf P f (entryAt P e .subject)
     subject-grade e l = rw (entry-subject L e l) (graded _ (subject-named e l))
 
-    pub subject-found : entrySubject s (bestOf (gradeAt s of Subjects) (entryCount s) .place) ≡ subjectOf P f
-    unfolding gradeAt subjects
-    subject-found = rw (entry-count L) (entry-subject L _ (p .inside) ∙ subject-picked P (L .good) f _ p)
-      where
-        p : Picked P f always subjectPath noEntry (P .entries) (bestOf (gradeAt s of Subjects) (length (P .entries)) .place)
-        p = picked P (L .good) f always subjectPath noEntry (P .entries) (rw (only-all (P .entries)) (S-rooted P (L .good))) (gradeAt s of Subjects) subject-grade
-
     module _ (r : ℕ) (known : r < length (P .roles)) where
       role-grade : (e : ℕ) → e < length (P .entries) → gradeAt s of (OfRole r) e ≡ cond (ofRole r (entryAt P e)) (gradeOf P f (entryAt P e .subject)) 0
       unfolding gradeAt
@@ -65,12 +58,6 @@ module _ {P : Policy} {rest s : List ℕ} (L : Loaded P rest s) (f : List ℕ) w
       entry-found =
           rw (entry-count L) (entry-picked P (L .good) f r _
           (picked P (L .good) f (ofRole r) subjectPath noEntry (P .entries) (role-rooted P (L .good) r known) (gradeAt s of (OfRole r)) role-grade))
-
-      -- its grade is not 0
-      pub entry-graded : 0 < bestOf (gradeAt s of (OfRole r)) (entryCount s) .grade
-      unfolding subjectsOf
-      entry-graded =
-          rw (entry-count L) (picked-graded P (L .good) f (ofRole r) subjectPath noEntry (P .entries) (role-rooted P (L .good) r known) (gradeAt s of (OfRole r)) role-grade)
 
     module _ (e : ℕ) (known : e < length (P .entries)) where
       pub object-found : Placed P e f (bestOf (gradeAt s of (Objects (firstObject s e))) (objectCount s e) .place)

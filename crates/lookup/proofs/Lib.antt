@@ -4,4 +4,5 @@ pub mod Picked
 pub mod Matches
 pub mod Found
 pub mod Listed
-pub mod Force
+pub mod Indexing
+pub mod Taking

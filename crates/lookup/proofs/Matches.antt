@@ -1,4 +1,4 @@
--- The best places are the model's: the subject that a file stands for, the entry in force, its object.
+-- The best places are the model's: the entry in force, its object.
 -- Assumes nothing.
 use mathlib.Core.Path.{_≡_, refl, sym, ap, _∙_}
 use mathlib.Core.Bool.{So}
@@ -11,7 +11,7 @@ use lib.ListN.{length, getD, length-map}
 use Rattle.paths.proofs.Bools.{both, left, right, eqb-of, eqb-to}
 use Rattle.rows.proofs.Tables.{map-at}
 use Rattle.gran.specs.Policy.{Policy, Object, Entry}
-use Rattle.gran.specs.Match.{subjectPath, objectPath, ofRole, isEntry, isObject, noEntry, subjects, subjectsOf, subjectIn, subjectOf, objectsOf, objectIn, entryOf, entryIn, modesOf}
+use Rattle.gran.specs.Match.{subjectPath, objectPath, ofRole, isEntry, isObject, noEntry, subjectsOf, subjectIn, objectsOf, objectIn, entryOf, entryIn, modesOf}
 use Rattle.gran.specs.Lists.{none, Distinct}
 use Rattle.gran.specs.Good.{Good, GoodEntry}
 use Rattle.gran.proofs.Lists.{all-at, distinct-at}
@@ -44,10 +44,6 @@ module _ (P : Policy) (good : Good P) (e : ℕ) (known : e < length (P .entries)
   })))
 
 module _ (P : Policy) (good : Good P) (f : List ℕ) where
-  pub subject-picked : (i : ℕ) → Picked P f always subjectPath noEntry (P .entries) i → entryAt P i .subject ≡ subjectOf P f
-  unfolding subjectOf subjects
-  subject-picked i p = sym (rw (only-all (P .entries)) at (p .is))
-
   pub entry-picked : (r i : ℕ) → Picked P f (ofRole r) subjectPath noEntry (P .entries) i → InForce P r f i
   unfolding entryIn entryOf subjectIn subjectsOf
   entry-picked r i p = record {

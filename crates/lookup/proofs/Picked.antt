@@ -1,4 +1,4 @@
--- The best place of a row: of the subjects of all entries, of a role's, of the objects of an entry.
+-- The best place of a row: of the subjects of a role's entries, of the objects of an entry.
 -- Assumes nothing.
 use mathlib.Core.Path.{_≡_, refl, sym, ap, _∙_}
 use mathlib.Core.Bool.{Bool, true, false, cond, So}
@@ -6,7 +6,7 @@ use mathlib.Core.List.{List, map}
 use Prim.Native.Nat.{ℕ, _<_}
 use native.Mathlib.Omega.{arith}
 use lib.ListN.{length, getD}
-use Rattle.gran.specs.Lists.{none, only, place, member}
+use Rattle.gran.specs.Lists.{none, only, member}
 use Rattle.gran.specs.Policy.{Policy}
 use Rattle.gran.specs.Match.{closest, MostSpecific}
 use Rattle.gran.specs.Good.{Good}
@@ -15,7 +15,7 @@ use Rattle.gran.proofs.Policies.{table}
 use Rattle.lookup.specs.Best.{bestOf}
 use Rattle.lookup.specs.Lookup.{gradeOf}
 use Rattle.lookup.proofs.Search.{listed-place, place-listed}
-use Rattle.lookup.proofs.Greatest.{Greatest, at-least, greatest, grade-under, greatest-closest}
+use Rattle.lookup.proofs.Greatest.{Greatest, greatest, grade-under, greatest-closest}
 
 -- Place i of a row of things, of which some count, each with a path: its path is the most specific.
 pub record Picked (P : Policy) (f : List ℕ) {A : Type 0} (test : A → Bool) (path : A → ℕ) (d : A) (xs : List A) (i : ℕ) : Type 0 where
@@ -46,9 +46,6 @@ module _ (P : Policy) (good : Good P) (f : List ℕ) {A : Type 0} (test : A → 
     top =
         let C₀ : MostSpecific (P .paths) cs f (closest (P .paths) f none cs) = closest-most (table P good) rooted f in
         let (j, l, e) = graded _ (C₀ .inside) in (j, l, omega (arith, e, grade-under P f _ (C₀ .above)))
-
-    pub picked-graded : 0 < bestOf a (length xs) .grade
-    picked-graded = omega (arith, at-least a (length xs) (top .0) (top .1), top .2)
 
     pub picked : Picked P f test path d xs (bestOf a (length xs) .place)
     picked = record {

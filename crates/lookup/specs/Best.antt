@@ -1,9 +1,8 @@
 -- The best place of a row of grades, as a loop finds it.
 -- Assumes nothing.
-use mathlib.Core.Path.{_≡_}
 use mathlib.Core.Bool.{cond, _&&_}
 use mathlib.Core.List.{List}
-use Prim.Native.Nat.{ℕ, zero, suc, _+_, _<_}
+use Prim.Native.Nat.{ℕ, zero, suc, _+_}
 use lib.Dec.{eqb, leb, ltb}
 use lib.ListN.{length}
 use Rattle.paths.specs.Path.{under}
@@ -11,7 +10,7 @@ use Rattle.gran.specs.Lists.{none}
 use Rattle.fields.specs.Fields.{byteAt, pathIn, entrySubject, entryRole, pathFrom}
 use Rattle.lookup.specs.declared.Best.{Best}
 use Rattle.lookup.specs.declared.Row.{Row}
-use Rattle.lookup.specs.declared.Row.the-variants.{Subjects, OfRole, Objects}
+use Rattle.lookup.specs.declared.Row.the-variants.{OfRole, Objects}
 
 abbrev pub noBest : Best
 noBest = record { place = none; grade = 0 }
@@ -35,11 +34,5 @@ gradeListed s f list i = gradeIn s f (byteAt list i)
 
 -- The grade at a place of a row, from the grades of the paths.
 unfoldable pub gradeAt : List ℕ → List ℕ → Row → ℕ → ℕ
-gradeAt s of Subjects i = byteAt of (entrySubject s i)
 gradeAt s of (OfRole r) i = cond (eqb (entryRole s i) r) (byteAt of (entrySubject s i)) 0
 gradeAt s of (Objects n) i = byteAt of (pathFrom s n i)
-
--- For each role the greatest grade among its first n entries, and the first entry that has it.
-pub record Tops (s of : List ℕ) (n : ℕ) (most row : List ℕ) : Type 0 where
-  pub grade : (r : ℕ) → r < length most → r < length row → byteAt most r ≡ bestOf (gradeAt s of (OfRole r)) n .grade
-  pub entry : (r : ℕ) → r < length most → r < length row → 0 < byteAt most r → byteAt row r ≡ bestOf (gradeAt s of (OfRole r)) n .place

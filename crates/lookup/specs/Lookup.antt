@@ -7,7 +7,7 @@ use Prim.Native.Nat.{ℕ, _+_, _<_}
 use lib.Dec.{eqb}
 use lib.ListN.{length, getD}
 use Rattle.paths.specs.Path.{under}
-use Rattle.gran.specs.Lists.{none, place}
+use Rattle.gran.specs.Lists.{place}
 use Rattle.gran.specs.Policy.{Policy, Entry}
 use Rattle.gran.specs.Match.{pathAt, noEntry, objectsOf, objectIn, entryIn}
 
@@ -18,10 +18,6 @@ gradeOf P f c = cond (under f (pathAt (P .paths) c)) (length (pathAt (P .paths) 
 -- The grades of the policy's paths for file f, so that no path is compared again.
 abbrev pub Graded : Policy → List ℕ → List ℕ → Type 0
 Graded P f grades = (c : ℕ) → c < length (P .paths) → getD grades c 0 ≡ gradeOf P f c
-
--- The file is path c of the policy, unless c is none.
-abbrev pub IsOwn : Policy → List ℕ → ℕ → Type 0
-IsOwn P f c = (c ≡ none → ⊥) → (c < length (P .paths)) × (f ≡ pathAt (P .paths) c)
 
 -- The entry of a number.
 abbrev pub entryAt : Policy → ℕ → Entry
@@ -37,3 +33,8 @@ pub record Placed (P : Policy) (e : ℕ) (f : List ℕ) (i : ℕ) : Type 0 where
   pub inside : i < length (entryAt P e .objects)
   pub is : getD (objectsOf (entryAt P e)) i 255 ≡ objectIn P (entryAt P e) f
   pub first : place (eqb (objectIn P (entryAt P e) f)) 0 (objectsOf (entryAt P e)) ≡ i
+
+-- For file f the entry in force in each role, and the place of the object in each entry.
+pub record Rows (P : Policy) (f force places : List ℕ) : Type 0 where
+  pub force-is : (r : ℕ) → r < length (P .roles) → InForce P r f (getD force r 0)
+  pub place-is : (e : ℕ) → e < length (P .entries) → Placed P e f (getD places e 0)

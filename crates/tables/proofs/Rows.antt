@@ -16,11 +16,9 @@ use Rattle.gran.specs.Match.{pathAt}
 use Rattle.gran.proofs.Policies.{path-subject, subjects-named}
 use Rattle.runs.specs.Steps.{choices}
 use Rattle.store.specs.Held.{Loaded}
-use Rattle.fields.specs.Fields.{entryCount}
-use Rattle.fields.proofs.Header.{entry-count}
-use Rattle.lookup.specs.Lookup.{Graded, InForce}
+use Rattle.lookup.specs.Lookup.{Rows}
 use Rattle.tables.specs.Tables.{cell}
-use Rattle.tables.specs.Regions.{holds, Front, Region, offers, rowsFor, Offers, Places, Row, RowFilled, RowsFilled}
+use Rattle.tables.specs.Regions.{holds, Front, Region, offers, rowsFor, Offers, Row, RowFilled, RowsFilled}
 use Rattle.rows.proofs.Parts.{part-length}
 use Rattle.tables.proofs.Front.{getD-any}
 use Rattle.tables.proofs.Parts.{put-own, put-other}
@@ -76,21 +74,18 @@ module _ (k m n : ℕ) (part force objects : List ℕ) (inside : k < 64) (long :
       put-other (2048 + 64 * k) n one objects (omega (arith, one-long)) objects-long j (λ out. omega (arith, b out))
       ∙ put-other (32 * k) m part force (omega arith) force-long j (λ out. omega (arith, a out))
 
-  pub row-filled : {s : List ℕ} (c : ℕ) (grades : List ℕ) → ((P : Policy) (rest : List ℕ) → Loaded P rest s → c < length (P .paths) → Graded P (pathAt (P .paths) c) grades)
-      → ((P : Policy) (rest f : List ℕ) → Loaded P rest s → Graded P f grades → (r : ℕ) → r < length (P .roles) → r < length force → InForce P r f (cell force r)) → Region s (Places grades) (entryCount s) objects
+  pub row-filled : {s : List ℕ} (c : ℕ) → ((P : Policy) (rest : List ℕ) → Loaded P rest s → c < length (P .paths) → Rows P (pathAt (P .paths) c) force objects)
       → RowFilled s c k part (putMid (2048 + 64 * k) n (putMid (32 * k) m part force) objects)
   unfolding one
-  row-filled c grades graded forced placed = record {
-    own = λ P rest L named.
-        let file = graded P rest L named in
-        record {
-          force = λ r h.
-              let few : r < 32 = omega (arith, L .fits .roles) in
-              rw (in-force r few) (forced P rest (pathAt (P .paths) c) L file r h (omega (arith, force-long)));
-          object = λ e h.
-              let few : e < 64 = omega (arith, L .fits .entries) in
-              rw (in-objects e few) (placed P rest L e (omega (arith, entry-count L)) (omega (arith, objects-long)) (pathAt (P .paths) c) file h);
-        };
+  row-filled c rows = record {
+    own = λ P rest L named. record {
+      force = λ r h.
+          let few : r < 32 = omega (arith, L .fits .roles) in
+          rw (in-force r few) (rows P rest L named .force-is r h);
+      object = λ e h.
+          let few : e < 64 = omega (arith, L .fits .entries) in
+          rw (in-objects e few) (rows P rest L named .place-is e h);
+    };
     others = λ P rest f L j l apart row. record {
       force = λ r h. rw (neither (32 * j + r) (λ out. omega (arith, L .fits .roles)) (λ out. absurd (omega (arith, L .fits .roles)))) (row .force r h);
       object = λ e h. rw (neither (2048 + (64 * j + e)) (λ out. omega arith) (λ out. omega (arith, L .fits .entries))) (row .object e h);

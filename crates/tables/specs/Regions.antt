@@ -68,10 +68,6 @@ Offers k cs P i v =
     length (choices P k) ≤ length cs → Front (choices P k) cs → i / length cs < rowsFor P k → i % length cs < length (choices P k)
     → holds v ≡ offers P k (i / length cs) (getD (choices P k) (i % length cs) none)
 
--- Cell e: the place in entry e of the object for the file that has the grades.
-abbrev pub Places : List ℕ → Policy → ℕ → ℕ → Type 0
-Places grades P e v = (f : List ℕ) → Graded P f grades → e < length (P .entries) → Placed P e f v
-
 -- Subject k, which is file f, has its rows: entries in force by role, then, from 2048 on, object places by entry.
 pub record Row (P : Policy) (f : List ℕ) (k : ℕ) (part : List ℕ) : Type 0 where
   pub force : (r : ℕ) → r < length (P .roles) → InForce P r f (cell part (32 * k + r))

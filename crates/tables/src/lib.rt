@@ -4,7 +4,7 @@ ghost use mathlib.Core.Path.{_≡_};
 ghost use mathlib.Core.List.{List};
 ghost use Prim.Native.Nat.{ℕ, _+_, _*_, _≤_, _<_};
 ghost use lib.Dec.{eqb};
-ghost use lib.ListN.{length, set};
+ghost use lib.ListN.{length};
 ghost use Rattle.gran.specs.Lists.{place};
 ghost use Rattle.gran.specs.Policy.{Policy, SPECIAL};
 ghost use Rattle.gran.specs.Match.{pathsOfS, isSubject};
@@ -15,26 +15,19 @@ ghost use Rattle.gran.specs.Abstract.{reaches};
 ghost use Rattle.runs.specs.Steps.{choices};
 ghost use Rattle.store.specs.Held.{Loaded};
 ghost use Rattle.fields.specs.Fields.{pathCount, entryCount};
+ghost use Rattle.lookup.specs.Index.{entryIndex, objectIndex};
 ghost use Rattle.lookup.specs.Lookup.{entryAt, Graded};
 ghost use Rattle.ids.specs.Ids.{allowedOf};
 ghost use Rattle.tables.specs.Tables.{cell, Tabled};
-ghost use Rattle.tables.specs.Regions.{holds, flagOf, Front, Region, Stands, Grants, Named, Choice, Counted, Offers, offers, rowsFor, Places, Lists, Tests, RowFilled, RowsFilled};
+ghost use Rattle.tables.specs.Regions.{flagOf, Front, Region, Stands, Grants, Named, Choice, Counted, Offers, offers, rowsFor, Lists, Tests, RowFilled, RowsFilled};
 use ids::GROUP;
 use ids::USER;
+use lookup::put;
 
 pub mod cell; // cell.rt: where cells stand, for those who read the tables
 
 // The kind of special roles.
 const SPECIAL: u8 = 0x73;
-
-// Writes `v` at `at`, if there is such a place.
-fn put(part: &mut [u8], at: usize, v: u8)
-    ensures { λ _. ⌜ now (part .exit) ≡ set (now (part .entry)) at v ⌝ }
-{
-    if at < part.len() {
-        part[at] = v;
-    }
-}
 
 // A test as a byte.
 fn flag(test: bool) -> u8
@@ -60,7 +53,7 @@ fn fill_choices(store: &[u8], kind: u8, part: &mut [u8])
 
 // For each number that a path can have a mark, set where some entry has that path as its subject.
 fn subject_marks(store: &[u8]) -> [u8; 256]
-    ensures { λ r. ⌜ ((P : Policy) (rest : List ℕ) → Loaded P rest (now (store .entry)) → (c : ℕ) → c < 256 → holds (cell r c) ≡ isSubject P c) ⌝ }
+    ensures { λ r. ⌜ ((P : Policy) (rest : List ℕ) → Loaded P rest (now (store .entry)) → (c : ℕ) → isSubject P c ≡ eqb (cell r c) 1) ⌝ }
 {
     let mut marks = [0u8; 256];
     let count = fields::entry_count(store);
@@ -80,7 +73,7 @@ fn fill_subjects(store: &[u8], part: &mut [u8])
     let mut at: usize = 0;
     for c in 0..count {
         put(part, at, c);
-        if marks[c as usize] != 0 {
+        if marks[c as usize] == 1 {
             at += 1;
         }
     }
@@ -245,7 +238,7 @@ fn fill_offer_row(
 // For each of the rows which of the choices it has. A row has a cell for each place of the list; those behind the choices are left.
 fn fill_offers(store: &[u8], kind: u8, rows: u8, choices: &[u8], part: &mut [u8])
     requires { ⌜ ((kind ≡ SPECIAL → ⊥) → Named kind) ⌝ }
-    requires { ⌜ (0 < length (now choices)) × (length (now choices) ≤ 16) ⌝ }
+    requires { ⌜ length (now choices) ≤ 16 ⌝ }
     ensures { λ _. ⌜ Region (now (store .entry)) (Offers kind (now (choices .entry))) (rows * length (now (choices .entry))) (now (part .exit)) ⌝ }
 {
     let width = choices.len();
@@ -257,29 +250,20 @@ fn fill_offers(store: &[u8], kind: u8, rows: u8, choices: &[u8], part: &mut [u8]
     }
 }
 
-// For each entry the place of the object for the file that has the grades.
-fn fill_places(store: &[u8], of: &[u8], row: &mut [u8])
-    ensures { λ _. ⌜ Region (now (store .entry)) (Places (now (of .entry))) (entryCount (now (store .entry))) (now (row .exit)) ⌝ }
-{
-    let count = fields::entry_count(store);
-    for e in 0..count {
-        let place = lookup::object_in(store, e, of);
-        put(row, e as usize, place);
-    }
-}
-
 // The rows of subject `k`, which is path `c`.
-fn fill_row(store: &[u8], c: u8, k: usize, part: &mut [u8])
+fn fill_row(store: &[u8], entries: &[u8], objects: &[u8], c: u8, k: usize, part: &mut [u8])
+    requires { ⌜ (now entries ≡ entryIndex (now store)) × (now objects ≡ objectIndex (now store)) ⌝ }
     requires { ⌜ k < 64 ⌝ }
     requires { ⌜ length (now part) ≡ 6144 ⌝ }
     ensures { λ _. ⌜ RowFilled (now (store .entry)) c k (now (part .entry)) (now (part .exit)) ⌝ }
 {
-    let g = lookup::grades_of(store, c);
-    let of = g.of;
-    let force = 32 * k;
-    lookup::entries_in(store, &of, &mut part[force..force + 32]);
-    let objects = 2048 + 64 * k;
-    fill_places(store, &of, &mut part[objects..objects + 64]);
+    let mut force = [0; 32];
+    let mut places = [0; 64];
+    lookup::rows_of(store, entries, objects, c, &mut force, &mut places);
+    let at = 32 * k;
+    copy(&force, &mut part[at..at + 32]);
+    let behind = 2048 + 64 * k;
+    copy(&places, &mut part[behind..behind + 64]);
 }
 
 // The rows of all subjects.
@@ -288,8 +272,12 @@ fn fill_rows(store: &[u8], subjects: &[u8], part: &mut [u8])
     requires { ⌜ length (now part) ≡ 6144 ⌝ }
     ensures { λ _. ⌜ RowsFilled (now (store .entry)) (now (subjects .entry)) (length (now (subjects .entry))) (now (part .exit)) ⌝ }
 {
+    let mut entries = [gran::NONE; 3072];
+    lookup::index_entries(store, &mut entries);
+    let mut objects = [gran::NONE; 6144];
+    lookup::index_objects(store, &mut objects);
     for k in 0..subjects.len() {
-        fill_row(store, subjects[k], k, part);
+        fill_row(store, &entries, &objects, subjects[k], k, part);
     }
 }
 

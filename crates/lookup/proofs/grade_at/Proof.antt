@@ -5,15 +5,6 @@ use Rattle.lookup.specs.Best.{gradeAt}
 use Rattle.lookup.proofs.grade_at.Statement.{statement}
 use Rattle.lookup.proofs.grade_at.Tie as tie
 
-enum-told : tie.Need-enum-told
-enum-told c = search needs
-
-entry-subject-requires : tie.Need-entry-subject-requires
-entry-subject-requires c κs = search needs
-
-grade-of-requires : tie.Need-grade-of-requires
-grade-of-requires c κs = search needs
-
 enum-known-row : tie.Need-enum-known-row
 enum-known-row c = search needs
 
@@ -26,32 +17,24 @@ enum-known-row-2 c = search needs
 path-from-requires : tie.Need-path-from-requires
 path-from-requires c κs = search needs
 
-grade-of-requires-2 : tie.Need-grade-of-requires-2
-grade-of-requires-2 c κs = search needs
+grade-of-requires : tie.Need-grade-of-requires
+grade-of-requires c κs = search needs
 
 returns : tie.Need-returns
-unfolding gradeAt
 returns c = cc
 
 returns-2 : tie.Need-returns-2
-returns-2 c = cc
-
-returns-3 : tie.Need-returns-3
 unfolding gradeAt
-returns-3 c = cc
+returns-2 c = cc
 
 pub grade-at-spec : {M : Type 1} → statement M
 grade-at-spec =
     tie.close
     (tie.spec
-    enum-told
-    entry-subject-requires
-    grade-of-requires
     enum-known-row
     role-grade-requires
     enum-known-row-2
     path-from-requires
-    grade-of-requires-2
+    grade-of-requires
     returns
-    returns-2
-    returns-3)
+    returns-2)

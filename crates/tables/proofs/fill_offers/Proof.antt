@@ -30,14 +30,14 @@ loop-holds c =
 fill-offer-row-requires : tie.Need-fill-offer-row-requires Inv-loop μ-loop
 fill-offer-row-requires c κs =
     let pre = c .before .before .before .before .before .before .before .pre in
-    (pre .0, (c .before .before .loop .inv .2, pre .1 .1, c .before .before .before .choice-count .ensures .0))
+    (pre .0, (c .before .before .loop .inv .2, pre .1, c .before .before .before .choice-count .ensures .0))
 
 add-at : tie.Need-add-at Inv-loop μ-loop
 add-at c =
     let s = c .before .before .before .before .before .before .before .before .before .before in
     let d = c .before .before .before .before in
     let row : d .before .loop .row < 256 = omega (arith, d .loop-test .taken, s .fits .rows .fits) in
-    record { fits = omega (arith, d .before .loop .inv .2, s .pre .1, few-cells (d .before .loop .row) (length (s .args .choices .now)) row (s .pre .1 .1)) }
+    record { fits = omega (arith, d .before .loop .inv .2, s .pre .1, few-cells (d .before .loop .row) (length (s .args .choices .now)) row (s .pre .1)) }
 
 add-row : tie.Need-add-row Inv-loop μ-loop
 add-row c = search needs

@@ -2,93 +2,100 @@
 -- Assumes nothing.
 use Prim.Native.Nat.{_+_, _*_, _-_}
 use native.Mathlib.Omega.{arith}
-use Rattle.tables.proofs.Rows.{row-filled}
 use borrow.Author.Needs.{needs}
+use Rattle.tables.proofs.Rows.{row-filled}
 use Rattle.tables.proofs.fill_row.Statement.{statement}
 use Rattle.tables.proofs.fill_row.Tie as tie
 
-grades-of-requires : tie.Need-grades-of-requires
-grades-of-requires c κs = search needs
+slice-aggregate-rows-of : tie.Need-slice-aggregate-rows-of
+slice-aggregate-rows-of c = search needs
 
-mul-force : tie.Need-mul-force
-mul-force c = omega arith
+slice-aggregate-rows-of-2 : tie.Need-slice-aggregate-rows-of-2
+slice-aggregate-rows-of-2 c = search needs
 
-slice-aggregate-entries-in : tie.Need-slice-aggregate-entries-in
-slice-aggregate-entries-in c = search needs
+rows-of-requires : tie.Need-rows-of-requires
+rows-of-requires c κs = search needs
 
-add-entries-in : tie.Need-add-entries-in
-add-entries-in c = omega arith
+mul-at : tie.Need-mul-at
+mul-at c = omega arith
 
-sub-entries-in : tie.Need-sub-entries-in
-sub-entries-in c = omega arith
+slice-aggregate-copy : tie.Need-slice-aggregate-copy
+slice-aggregate-copy c = search needs
 
-part-entries-in-start : tie.Need-part-entries-in-start
-part-entries-in-start c = omega arith
+add-copy : tie.Need-add-copy
+add-copy c = omega arith
 
-part-entries-in-end : tie.Need-part-entries-in-end
-part-entries-in-end c = omega arith
+sub-copy : tie.Need-sub-copy
+sub-copy c = omega arith
 
-entries-in-requires : tie.Need-entries-in-requires
-entries-in-requires c κs = search needs
+part-copy-start : tie.Need-part-copy-start
+part-copy-start c = omega arith
 
-mul-objects : tie.Need-mul-objects
-mul-objects c = omega arith
+part-copy-end : tie.Need-part-copy-end
+part-copy-end c = omega arith
 
-add-objects : tie.Need-add-objects
-add-objects c = omega arith
+copy-requires : tie.Need-copy-requires
+copy-requires c κs = search needs
 
-slice-aggregate-fill-places : tie.Need-slice-aggregate-fill-places
-slice-aggregate-fill-places c = search needs
+mul-behind : tie.Need-mul-behind
+mul-behind c = omega arith
 
-add-fill-places : tie.Need-add-fill-places
-add-fill-places c = omega arith
+add-behind : tie.Need-add-behind
+add-behind c = omega arith
 
-sub-fill-places : tie.Need-sub-fill-places
-sub-fill-places c = omega arith
+slice-aggregate-copy-2 : tie.Need-slice-aggregate-copy-2
+slice-aggregate-copy-2 c = search needs
 
-part-fill-places-start : tie.Need-part-fill-places-start
-part-fill-places-start c = omega arith
+add-copy-2 : tie.Need-add-copy-2
+add-copy-2 c = omega arith
 
-part-fill-places-end : tie.Need-part-fill-places-end
-part-fill-places-end c = omega arith
+sub-copy-2 : tie.Need-sub-copy-2
+sub-copy-2 c = omega arith
 
-fill-places-requires : tie.Need-fill-places-requires
-fill-places-requires c κs = search needs
+part-copy-start-2 : tie.Need-part-copy-start-2
+part-copy-start-2 c = omega arith
+
+part-copy-end-2 : tie.Need-part-copy-end-2
+part-copy-end-2 c = omega arith
+
+copy-requires-2 : tie.Need-copy-requires-2
+copy-requires-2 c κs = search needs
 
 same-length : tie.Need-same-length
 same-length c = search needs
 
 returns : tie.Need-returns
 returns c =
-    let s = c .before .before .before .before .before .before .before .before .before .before .before .before .before .before in
+    let s = c .before .before .before .before .before .before .before .before .before .before .before .before .before .before .before .before .before .before .before in
     let args = s .args in
-    let g = c .before .before .before .before .before .before .before .before .before .before .before .grades-of .result .of in
-    let graded = c .before .before .before .before .before .before .before .before .before .before .before .grades-of .ensures in
+    let force = c .before .before .before .before .before .before .before .copy in
+    let places = c .before .before .copy2 in
     let at = 32 * args .k in
     let behind = 2048 + 64 * args .k in
-    row-filled (args .k) (at + 32 - at) (behind + 64 - behind) (args .part .now) (c .before .before .before .before .before .before .before .entries-in .last .1 .1 .0)
-    (c .before .before .fill-places .last .1 .1 .0) (s .pre .0) (s .pre .1) (omega arith) (omega arith) (c .before .before .before .before .before .before .before .entries-in .kept .1 .1 .0)
-    (c .before .before .fill-places .kept .1 .1 .0) (args .c) g graded (c .before .before .before .before .before .before .before .entries-in .ensures) (c .before .before .fill-places .ensures)
+    row-filled (args .k) (at + 32 - at) (behind + 64 - behind) (args .part .now) (force .last .1 .0) (places .last .1 .0) (s .pre .1 .0) (s .pre .1 .1) (omega arith) (omega arith) (force .kept .1 .0) (places .kept .1 .0)
+    (args .c) (λ P rest L named. rw (force .ensures, places .ensures) (c .before .before .before .before .before .before .before .before .before .before .before .before .rows-of .ensures P rest L named))
 
 pub fill-row-spec : {M : Type 1} → statement M
 fill-row-spec =
     tie.close
     (tie.spec
-    grades-of-requires
-    mul-force
-    slice-aggregate-entries-in
-    add-entries-in
-    sub-entries-in
-    part-entries-in-start
-    part-entries-in-end
-    entries-in-requires
-    mul-objects
-    add-objects
-    slice-aggregate-fill-places
-    add-fill-places
-    sub-fill-places
-    part-fill-places-start
-    part-fill-places-end
-    fill-places-requires
+    slice-aggregate-rows-of
+    slice-aggregate-rows-of-2
+    rows-of-requires
+    mul-at
+    slice-aggregate-copy
+    add-copy
+    sub-copy
+    part-copy-start
+    part-copy-end
+    copy-requires
+    mul-behind
+    add-behind
+    slice-aggregate-copy-2
+    add-copy-2
+    sub-copy-2
+    part-copy-start-2
+    part-copy-end-2
+    copy-requires-2
     same-length
     returns)

@@ -1,17 +1,16 @@
 -- `fill_subjects` meets its contract: what is written so far, and the subjects among the paths still to come, are the subjects.
 -- Assumes nothing.
-use mathlib.Core.Path.{_≡_, sym, _∙_}
+use mathlib.Core.Path.{_≡_, _∙_}
 use mathlib.Core.Logic.{⊎-elim}
 use mathlib.Core.List.{List}
 use Prim.Native.Nat.{ℕ, _-_, _≤_}
 use native.Mathlib.Omega.{arith}
 use borrow.Author.Needs.{needs}
-use borrow.Author.Tests.{ne-eqb}
+use borrow.Author.Tests.{eq-eqb, ne-eqb}
 use lib.ListN.{length}
 use Rattle.gran.specs.Policy.{Policy}
 use Rattle.gran.specs.Match.{pathsOfS}
 use Rattle.store.specs.Held.{Loaded}
-use Rattle.tables.specs.Regions.{holds}
 use Rattle.tables.proofs.Front.{Written}
 use Rattle.tables.proofs.Subjects.{fromPath, subjects-begin, subject-taken, subject-passed, subjects-end}
 use Rattle.tables.proofs.fill_subjects.Statement.{statement}
@@ -53,7 +52,6 @@ loop-less : tie.Need-loop-less Inv-loop μ-loop
 loop-less c = search needs
 
 loop-again : tie.Need-loop-again Inv-loop μ-loop
-unfolding holds
 loop-again c =
     let put = c .before .before .before .put in
     let loop = c .before .before .before .before .before .before .loop in
@@ -66,7 +64,7 @@ loop-again c =
       omega (arith, put .kept .0),
       λ P rest L room.
           let more : length (pathsOfS P) ≤ length (loop .part) = omega (arith, put .kept .0) in
-          rw (w .1, put .ensures) (subject-taken L (loop .c) (omega arith) (loop .inv .3 P rest L more) more (sym (found P rest L (loop .c) (omega arith)) ∙ rw (ne-eqb _ _ (w .0 .taken)))),
+          rw (w .1, put .ensures) (subject-taken L (loop .c) (omega arith) (loop .inv .3 P rest L more) more (found P rest L (loop .c) ∙ eq-eqb _ _ (w .0 .taken))),
     ))
     (λ w. (
       omega arith,
@@ -74,7 +72,7 @@ loop-again c =
       omega (arith, put .kept .0),
       λ P rest L room.
           let more : length (pathsOfS P) ≤ length (loop .part) = omega (arith, put .kept .0) in
-          rw (w .1, put .ensures) (subject-passed L (loop .c) (omega arith) (loop .inv .3 P rest L more) (sym (found P rest L (loop .c) (omega arith)) ∙ rw (w .0 .left))),
+          rw (w .1, put .ensures) (subject-passed L (loop .c) (omega arith) (loop .inv .3 P rest L more) (found P rest L (loop .c) ∙ ne-eqb _ _ (w .0 .left))),
     ))
     (c .if1 .came)
 

@@ -1,10 +1,10 @@
 -- `put` meets its contract: past the end `set` changes nothing.
 -- Assumes nothing.
 use mathlib.Core.Path.{sym}
-use lib.Seq.{set-out}
 use borrow.Author.Needs.{needs}
-use Rattle.tables.proofs.put.Statement.{statement}
-use Rattle.tables.proofs.put.Tie as tie
+use lib.Seq.{set-out}
+use Rattle.lookup.proofs.put.Statement.{statement}
+use Rattle.lookup.proofs.put.Tie as tie
 
 slice-write-part : tie.Need-slice-write-part
 slice-write-part c = search needs
