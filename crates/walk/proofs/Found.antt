@@ -8,7 +8,7 @@ use Prim.Native.Nat.{ℕ, zero, suc, _+_, _-_, _≤_, _<_}
 use native.Mathlib.Omega.{arith}
 use native.Mathlib.Decide.{ℕ-discrete, decLt}
 use native.Mathlib.Numerals.{add-one}
-use lib.ListN.{length, getD, length-append}
+use lib.ListN.{length, length-append}
 use borrow.Author.Tests.{eq-eqb, ne-eqb}
 use Rattle.gran.specs.Policy.{Policy}
 use Rattle.gran.specs.Abstract.{Act, may, next, access}
@@ -31,10 +31,10 @@ use Rattle.numbered.proofs.Members.{sized}
 use Rattle.numbered.proofs.Numbers.{places-among, number-injective, number-lt, next-inside}
 use Rattle.numbered.proofs.Force.{goal-is}
 use Rattle.numbered.proofs.Steps.{candidates-are}
-use Rattle.walk.specs.Walk.{Walk, mark, Cleared, empty, enter, visit, visits, sweep, search, trail}
+use Rattle.walk.specs.Walk.{Walk, queued, mark, Cleared, empty, enter, visit, visits, sweep, search, trail}
 use Rattle.walk.specs.Found.{Recorded, Linking, Chain, actsAlong, Met}
 use Rattle.walk.proofs.Walks.{visit-new, visit-old, visits-met, sweep-met, sweep-more, sweep-done}
-use Rattle.walk.proofs.Keeping.{kept-count}
+use Rattle.walk.proofs.Keeping.{kept-count, kept-most}
 use Rattle.walk.proofs.Recording.{Known, Stored, stored-none, other, enter-stored}
 
 -- ---- one step
@@ -172,7 +172,6 @@ module _ (P : Policy) (rest s : List ℕ) (q : Question) (t : List ℕ) (loaded 
           searched = fresh P α found p i (st .searched) (g .here) a step₁ β₁ leads
               (λ k h eq. other P few goal w found (st .stored) e c (number-state P β₁ inside₁) m k h (ap (stateNumber P) eq));
           stored = enter-stored P few goal w found (st .stored) e c (number-state P β₁ inside₁) m
-              (λ k h. number-lt P (loaded .good) (stateAt found k) (st .inside k h))
               (λ k pos h. st .searched .children k pos h .earlier)
               (λ pos. (g .here, ap (λ (u : State). labelOf P u a) (sym (g .at))));
           inside = each-place found e (λ k. Inside P (stateAt (found ++ e ∷ []) k)) (λ k h. rw (state-old found e k h) (st .inside k h)) (rw (state-new found e) inside₁);
@@ -273,14 +272,14 @@ module _ (P : Policy) (rest s : List ℕ) (q : Question) (t : List ℕ) (loaded 
       go (yes lt) further =
           let st : Stands w (b .found) p 0 = b .stands in
           let here : p < length (b .found) = omega (arith, st .stored .recorded .count) in
-          let all : from (getD (w .area) p 0) ≡ map (stepOf P β) (steps P β) = ap from (st .stored .recorded .states p here) ∙ candidates-are P rest s q t loaded tabled β (st .inside p here) in
+          let all : from (queued (w .area) p) ≡ map (stepOf P β) (steps P β) = ap from (st .stored .recorded .states p here) ∙ candidates-are P rest s q t loaded tabled β (st .inside p here) in
           rw (sweep-more goal from fuel p w (b .unmet) lt, all)
           (on further (visits-at p β [] (steps P β) refl w (record { found = b .found; stands = st; here = here; at = refl; unmet = b .unmet })))
       go (no ge) further =
           let c : p ≡ w .count = omega (arith, b .within, b .stands .stored .recorded .count) in
           rw (sweep-done goal from (suc fuel) p w (omega arith)) (inr (rw c at b))
 
-  module _ (area : List ℕ) (clear : Cleared area) where
+  module _ (area : List ℕ) (clear : Cleared (allStates (sizesOf P)) area) where
     -- A cleared work area, with the start found.
     begun : Between (visit goal 0 0 (stateNumber P α) (empty area)) 0 ⊎ Over (visit goal 0 0 (stateNumber P α) (empty area))
     unfolding granted few stateAt
@@ -296,7 +295,7 @@ module _ (P : Policy) (rest s : List ℕ) (q : Question) (t : List ℕ) (loaded 
         stands = record {
           searched = begin P α;
           stored = enter-stored P few goal (empty area) [] (stored-none P area clear) (first α) 0 (number-state P α start) unmarked
-              (λ k h. absurd (omega arith)) (λ k pos h. absurd (omega arith)) (λ pos. absurd (omega arith));
+              (λ k pos h. absurd (omega arith)) (λ pos. absurd (omega arith));
           inside = each-place [] (first α) (λ k. Inside P (stateAt (first α ∷ []) k)) (λ k h. absurd (omega arith)) (rw (state-new [] (first α)) start);
           others = λ k h. absurd (omega arith);
           last = λ k h. let z : k ≡ 0 = omega arith in rw (z, state-new [] (first α)) (sym (goal-is P q t (loaded .good) tabled α start));
@@ -333,11 +332,13 @@ module _ (P : Policy) (rest s : List ℕ) (q : Question) (t : List ℕ) (loaded 
     recorded = rec;
     linked = record { starts = g .starts .0; inside = st .inside; steps = linking g };
     rooted = record {
+      all = allStates (sizesOf P);
+      few = few;
       long = st .stored .kept .long;
       within = omega (arith, rec .count, g .some, size);
-      small = λ j h. let lt : j < length found = omega (arith, rec .count, g .some) in omega (arith, rec .states j lt, number-lt P (loaded .good) (stateAt found j) (st .inside j lt));
+      small = λ j h. st .stored .kept .states j (omega (arith, rec .count, g .some));
       earlier = λ j pos h. let lt : j < length found = omega (arith, rec .count, g .some) in
-          let m : mark (w .area) (getD (w .area) j 0) ≡ suc (parentAt found j) = ap (mark (w .area)) (rec .states j lt) ∙ rec .parents j lt in
+          let m : mark (w .area) (queued (w .area) j) ≡ suc (parentAt found j) = ap (mark (w .area)) (rec .states j lt) ∙ rec .parents j lt in
           let up : parentAt found j < j = g .children j pos lt .earlier in
           omega arith;
     };
@@ -358,8 +359,8 @@ module _ (P : Policy) (rest s : List ℕ) (q : Question) (t : List ℕ) (loaded 
       rec : Recorded P w found
       rec = st .stored .recorded
 
-      size : w .count ≤ 8192
-      size = kept-count (sizesOf P) (st .stored .kept)
+      size : w .count ≤ allStates (sizesOf P)
+      size = kept-most (sizesOf P) few (st .stored .kept)
 
       last : ℕ
       last = w .count - 1
@@ -368,9 +369,9 @@ module _ (P : Policy) (rest s : List ℕ) (q : Question) (t : List ℕ) (loaded 
       ends = omega (arith, rec .count, g .some)
 
       chain : Chain found last (trail (w .area) 8192 last)
-      chain = trail-chain g w rec 8192 last (omega (arith, rec .count, g .some, size)) (omega (arith, rec .count, g .some))
+      chain = trail-chain g w rec 8192 last (omega (arith, rec .count, g .some, size, few)) (omega (arith, rec .count, g .some))
 
-  module _ (area : List ℕ) (clear : Cleared area) where
+  module _ (area : List ℕ) (clear : Cleared (allStates (sizesOf P)) area) where
     -- No access was met: there is none, and the queue has all states that are reached.
     pub search-never : search (goalAt t (sizesOf P)) (candidates s t (sizesOf P)) (stateNumber P α) area .met ≡ false
         → Unreached P q α (search (goalAt t (sizesOf P)) (candidates s t (sizesOf P)) (stateNumber P α) area .count)

@@ -6,11 +6,10 @@ use mathlib.Core.List.{List}
 use Prim.Native.Nat.{ℕ, zero, suc, _+_, _≤_, _<_}
 use native.Mathlib.Omega.{arith}
 use native.Mathlib.Decide.{decLt}
-use lib.ListN.{getD}
 use Rattle.numbered.specs.Number.{allStates}
 use Rattle.numbered.specs.Candidates.{Step}
 use Rattle.numbered.specs.declared.Sizes.{Sizes}
-use Rattle.walk.specs.Walk.{Walk, visits, sweep}
+use Rattle.walk.specs.Walk.{Walk, queued, visits, sweep}
 use Rattle.walk.specs.Needed.{Kept, Marked}
 use Rattle.walk.proofs.Walks.{sweep-met, sweep-more, sweep-done}
 use Rattle.walk.proofs.Each.{each-map}
@@ -30,5 +29,5 @@ module _ (z : Sizes) (few : allStates z ≤ 8192) (goal : ℕ → Bool) (w : Wal
       go true e here on = sweep-met goal steps (suc fuel) p w e
       go false e (yes lt) on =
           sweep-more goal steps fuel p w e lt
-          ∙ ap (sweep goal steps fuel (p + 1)) (visits-full p (steps (getD (w .area) p 0)) (inside (getD (w .area) p 0) (kept .states p lt))) ∙ on
+          ∙ ap (sweep goal steps fuel (p + 1)) (visits-full p (steps (queued (w .area) p)) (inside (queued (w .area) p) (kept .states p lt))) ∙ on
       go false e (no ge) on = sweep-done goal steps (suc fuel) p w (omega arith)

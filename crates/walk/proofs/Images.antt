@@ -3,23 +3,25 @@
 -- Assumes nothing.
 use mathlib.Core.Path.{_≡_, refl, sym, ap, subst, _∙_}
 use mathlib.Core.Logic.{⊎-elim}
-use mathlib.Core.Bool.{Bool, true, false, cond}
+use mathlib.Core.Bool.{Bool, So, true, false, not, cond, and-eq-true-iff}
 use mathlib.Core.List.{List, [], _∷_, _++_, append-assoc, append-nil, List·Memᴰ, List·Memᴰ·append-cases}
 use Prim.Native.Nat.{ℕ, zero, suc, _+_, _*_, _≤_, _<_}
 use native.Mathlib.Omega.{arith}
 use native.Mathlib.Numerals.{add-one}
-use lib.ListN.{length, getD, set, drop, length-append, length-drop}
-use lib.Seq.{drop-cons, set-at, getD-append-seam}
+use lib.Dec.{eqb}
+use lib.ListN.{length, getD, set, take, drop, length-append, length-drop}
+use lib.Seq.{length-take-le, getD-take, drop-cons, set-at, getD-append-seam}
 use Rattle.gran.specs.Lists.{All, only, numbers}
 use Rattle.gran.proofs.Members.{all-mem, at-mem, only-of, only-le, only-append, numbers-of}
 use Rattle.gran.proofs.Counting.{numbers-length}
 use Rattle.runs.specs.Steps.{each}
+use Rattle.tables.specs.Tables.{isSet, userReachCell}
 use Rattle.numbered.specs.Number.{numberOf}
-use Rattle.numbered.specs.Candidates.{Step, offered, flat, withUser, withGroup, withSubject, inImage, subjectStep, bySubject, otherGroup, byGroup, otherUser, byUser}
+use Rattle.numbered.specs.Candidates.{Step, offered, flat, withUser, withSubject, inImage, subjectStep, bySubject, otherGroup, byGroup, otherUser, byUser}
 use Rattle.numbered.specs.declared.Sizes.{Sizes}
 use Rattle.numbered.specs.declared.Digits.{Digits}
 use Rattle.walk.specs.Walk.{Written}
-use Rattle.walk.specs.Image.{imageOf, isAnother, followersOf, usersAfter, groupsAfter}
+use Rattle.walk.specs.Image.{imageOf, isAnother, followersOf, usersAfter, groupsAfter, Below, toGroup}
 
 -- ---- those of a range that pass, after what stands in front
 
@@ -107,6 +109,9 @@ flat-each g xs (y ∷ ys) =
     rw (append-assoc xs (y ∷ []) ys, length-append xs (y ∷ [])) at (flat-each g (xs ++ y ∷ []) ys) in
     rw (getD-append-seam xs y ys 0, rest)
 
+pub list-steps : (g : ℕ → List Step) (xs : List ℕ) → flat (at g xs) 0 (length xs) ≡ each xs g
+list-steps g xs = flat-each g [] xs
+
 -- Number j gives `g j` if it passes, and nothing else.
 module _ (f g : ℕ → List Step) (test : ℕ → Bool) (gives : (j : ℕ) → f j ≡ cond (test j) (g j) []) where
   each-passing : (k n : ℕ) → each (only test (numbers k n)) g ≡ flat f k n
@@ -126,8 +131,8 @@ module _ (f g : ℕ → List Step) (test : ℕ → Bool) (gives : (j : ℕ) → 
   passing-steps n xs is = flat-each g [] xs ∙ rw is (each-passing 0 n)
 
   -- The same after one in front.
-  pub kept-steps : (kept n : ℕ) (xs : List ℕ) → xs ≡ kept ∷ only test (numbers 0 n) → flat (at g xs) 0 (length xs) ≡ g kept ++ flat f 0 n
-  kept-steps kept n xs is = flat-each g [] xs ∙ rw is (ap (λ (l : List Step). g kept ++ l) (each-passing 0 n))
+  kept-steps : (kept n : ℕ) (xs : List ℕ) → xs ≡ kept ∷ only test (numbers 0 n) → each xs g ≡ g kept ++ flat f 0 n
+  kept-steps kept n xs is = rw is (ap (λ (l : List Step). g kept ++ l) (each-passing 0 n))
 
 -- ---- by subject, by group, by user
 
@@ -136,9 +141,6 @@ toSubject label base k = record { label = label; target = base + k } ∷ []
 
 -- The lists that the loops go through give the steps of the object at place i of entry e, whose path is c.
 module _ (t : List ℕ) (z : Sizes) (d : Digits) (e i c : ℕ) where
-  abbrev pub toGroup : ℕ → List Step
-  toGroup j = bySubject t z (withGroup d j) e i c
-
   abbrev pub toUser : ℕ → List Step
   toUser j = byGroup t z (withUser d j) e i c
 
@@ -151,16 +153,53 @@ module _ (t : List ℕ) (z : Sizes) (d : Digits) (e i c : ℕ) where
       go k true = rw (row k)
       go k false = refl
 
-  pub group-steps : (groups : List ℕ) → groups ≡ groupsAfter t z d e → flat (at toGroup groups) 0 (length groups) ≡ byGroup t z d e i c
+  pub group-steps : (groups : List ℕ) → groups ≡ groupsAfter t z d e → each groups (toGroup t z d e i c) ≡ byGroup t z d e i c
   unfolding followersOf isAnother byGroup otherGroup
-  group-steps groups is = kept-steps (otherGroup t z d e i c) toGroup (isAnother t (512 + 8 * e) (d .group)) gives (d .group) (z .groups) groups is
+  group-steps groups is = kept-steps (otherGroup t z d e i c) (toGroup t z d e i c) (isAnother t (512 + 8 * e) (d .group)) gives (d .group) (z .groups) groups is
     where
-      gives : (j : ℕ) → otherGroup t z d e i c j ≡ cond (isAnother t (512 + 8 * e) (d .group) j) (toGroup j) []
+      gives : (j : ℕ) → otherGroup t z d e i c j ≡ cond (isAnother t (512 + 8 * e) (d .group) j) (toGroup t z d e i c j) []
       gives j = let same : 512 + (8 * e + j) ≡ 512 + 8 * e + j = omega arith in rw same
 
   pub user-steps : (users : List ℕ) → users ≡ usersAfter t z d e → flat (at toUser users) 0 (length users) ≡ byUser t z d e i c
   unfolding followersOf isAnother byUser otherUser
-  user-steps users is = kept-steps (otherUser t z d e i c) toUser (isAnother t (1024 + 16 * e) (d .user)) gives (d .user) (z .users) users is
+  user-steps users is = list-steps toUser users ∙ kept-steps (otherUser t z d e i c) toUser (isAnother t (1024 + 16 * e) (d .user)) gives (d .user) (z .users) users is
     where
       gives : (j : ℕ) → otherUser t z d e i c j ≡ cond (isAnother t (1024 + 16 * e) (d .user) j) (toUser j) []
       gives j = let same : 1024 + (16 * e + j) ≡ 1024 + 16 * e + j = omega arith in rw same
+
+-- Where the numbers of a list are below n, so are those of its front.
+pub below-front : (n : ℕ) (xs : List ℕ) → Below n xs → (k : ℕ) → k ≤ length xs → Below n (take k xs)
+below-front n xs below k few j h =
+    let lt : j < k = omega (arith, h, length-take-le k xs few) in
+    rw (getD-take k xs j 0 lt) (below j (omega arith))
+
+-- ---- who follows when entry e is in force
+
+module _ (t : List ℕ) (z : Sizes) (d : Digits) (e : ℕ) where
+  pub groups-below : {groups : List ℕ} → groups ≡ groupsAfter t z d e → d .group < z .groups → Below (z .groups) groups
+  unfolding followersOf
+  groups-below is lt = listed-lt (d .group ∷ []) (isAnother t (512 + 8 * e) (d .group)) (z .groups) is (lt, tt)
+
+  pub groups-fit : (alone : Bool) {groups : List ℕ} → groups ≡ groupsAfter t z d e → {n : ℕ} → n ≡ cond alone 1 (length groups) → n ≤ length groups
+  unfolding followersOf
+  groups-fit true is few = omega (arith, ap length is)
+  groups-fit false is few = omega arith
+
+  pub first-group : {groups : List ℕ} → groups ≡ groupsAfter t z d e → take 1 groups ≡ d .group ∷ []
+  unfolding followersOf
+  first-group is = rw is
+
+  pub users-below : {users : List ℕ} → users ≡ usersAfter t z d e → d .user < z .users → Below (z .users) users
+  unfolding followersOf
+  users-below is lt = listed-lt (d .user ∷ []) (isAnother t (1024 + 16 * e) (d .user)) (z .users) is (lt, tt)
+
+  -- A user behind the first is allowed.
+  pub user-allowed : {users : List ℕ} → users ≡ usersAfter t z d e → (j : ℕ) → 0 < j → j < length users → So (isSet t (userReachCell e (getD users j 0)))
+  unfolding followersOf isAnother
+  user-allowed is zero pos h = absurd (omega arith)
+  user-allowed {users} is (suc j) pos h =
+      let allowed : List ℕ = only (isAnother t (1024 + 16 * e) (d .user)) (numbers 0 (z .users)) in
+      let u : ℕ = getD users (suc j) 0 in
+      let m : List·Memᴰ u allowed = rw is (at-mem 0 allowed j (omega (arith, h, ap length is))) in
+      let same : 1024 + (16 * e + u) ≡ 1024 + 16 * e + u = omega arith in
+      rw same (and-eq-true-iff (not (eqb u (d .user))) (isSet t (1024 + 16 * e + u)) .0 (only-of (isAnother t (1024 + 16 * e) (d .user)) (numbers 0 (z .users)) m .1) .1)

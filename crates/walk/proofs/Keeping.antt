@@ -3,17 +3,16 @@
 use mathlib.Core.Path.{_≡_, refl, sym, ap, _∙_}
 use mathlib.Core.Bool.{Bool, true, false, cond}
 use mathlib.Core.List.{List, [], _∷_}
-use Prim.Native.Nat.{ℕ, zero, suc, _+_, _≤_, _<_}
+use Prim.Native.Nat.{ℕ, zero, suc, _+_, _*_, _≤_, _<_}
 use native.Mathlib.Omega.{arith}
 use native.Mathlib.Decide.{ℕ-discrete}
 use lib.Dec.{eqb}
-use lib.ListN.{getD}
 use borrow.Author.Tests.{eq-eqb, ne-eqb}
 use Rattle.lines.specs.Line.{zeros}
 use Rattle.lines.proofs.Rooms.{length-zeros, getD-zeros}
 use Rattle.numbered.specs.Candidates.{Step}
 use Rattle.numbered.specs.declared.Sizes.{Sizes}
-use Rattle.walk.specs.Walk.{Walk, mark, Cleared, empty, enter, visit, visits}
+use Rattle.walk.specs.Walk.{Walk, queued, mark, Cleared, empty, enter, visit, visits}
 use Rattle.numbered.specs.Number.{allStates}
 use Rattle.walk.specs.Needed.{unmarked, Kept}
 use Rattle.walk.proofs.Each.{Each}
@@ -68,7 +67,7 @@ module _ (a b : List ℕ) (n : ℕ) (was : mark a n ≡ 0) (is : mark b n ≡ 0 
 -- ---- the memory
 
 module _ (z : Sizes) where
-  pub kept-empty : (area : List ℕ) → Cleared area → Kept z (empty area)
+  pub kept-empty : (area : List ℕ) → Cleared (allStates z) area → Kept z (empty area)
   kept-empty area clear = record {
     long = clear .long;
     states = λ k h. absurd (omega arith);
@@ -76,14 +75,14 @@ module _ (z : Sizes) where
     beyond = λ n le. clear .unmarked n;
   }
 
-  -- There is room for a state that was not found yet.
-  pub kept-room : {w : Walk} → Kept z w → (n : ℕ) → n < 8192 → mark (w .area) n ≡ 0 → w .count < 8192
-  kept-room {w} kept n small m = omega (arith, kept .each, unmarked-some (w .area) 8192 n small m)
-
   pub kept-count : {w : Walk} → Kept z w → w .count ≤ 8192
   kept-count kept = omega (arith, kept .each)
 
-  -- While a state has no mark, fewer were found than there are.
+  -- No more were found than there are.
+  pub kept-most : (few : allStates z ≤ 8192) {w : Walk} → Kept z w → w .count ≤ allStates z
+  kept-most few {w} kept = omega (arith, kept .each, unmarked-from (w .area) (allStates z) 8192 few (kept .beyond))
+
+  -- While a state has no mark, fewer were found than there are: there is room for it.
   pub kept-below : (few : allStates z ≤ 8192) {w : Walk} → Kept z w → (n : ℕ) → n < allStates z → mark (w .area) n ≡ 0 → w .count < allStates z
   kept-below few {w} kept n state m = omega (arith, kept .each, unmarked-from (w .area) (allStates z) 8192 few (kept .beyond), unmarked-some (w .area) (allStates z) n state m)
 
@@ -92,28 +91,24 @@ module _ (z : Sizes) where
   kept-full few kept all n state m = omega (arith, kept-below few kept n state m)
 
   module _ (few : allStates z ≤ 8192) (goal : ℕ → Bool) (p c n : ℕ) (state : n < allStates z) {w : Walk} (kept : Kept z w) where
-    small : n < 8192
-    small = omega (arith, few, state)
-
     pub kept-enter : mark (w .area) n ≡ 0 → Kept z (enter goal p c n w)
-    unfolding small
     kept-enter m =
-        let room : w .count < 8192 = kept-room kept n small m in
+        let room : w .count < allStates z = kept-below few kept n state m in
         record {
-          long = entered-length (w .area) (w .count) p c n ∙ kept .long;
+          long = rw (entered-length (w .area) (w .count) p c n) (kept .long);
           states = states₁ room;
           each =
               let less : suc (unmarked (enter goal p c n w .area) 8192) ≡ unmarked (w .area) 8192 =
-              unmarked-less (w .area) (enter goal p c n w .area) n m (λ e. omega (arith, mark-new (w .area) (w .count) p c n (kept .long) room small)) 8192 small
-              (mark-stays (w .area) (w .count) p c n (kept .long) room small) in
+              unmarked-less (w .area) (enter goal p c n w .area) n m (λ e. omega (arith, mark-new (w .area) (w .count) p c n (omega (arith, kept .long, state)))) 8192 (omega (arith, few, state))
+              (λ m lt. mark-stays (w .area) (w .count) p c n m) in
               omega (arith, kept .each, less);
-          beyond = λ m le lt. mark-stays (w .area) (w .count) p c n (kept .long) room small m lt (omega (arith, state)) ∙ kept .beyond m le lt;
+          beyond = λ m le lt. mark-stays (w .area) (w .count) p c n m (omega (arith, state)) ∙ kept .beyond m le lt;
         }
       where
-        states₁ : w .count < 8192 → (k : ℕ) → k < w .count + 1 → getD (enter goal p c n w .area) k 0 < allStates z
+        states₁ : w .count < allStates z → (k : ℕ) → k < w .count + 1 → queued (enter goal p c n w .area) k < allStates z
         states₁ room k h = elim (ℕ-discrete k (w .count)) [
-          | yes e ↦ rw (e, queue-new (w .area) (w .count) p c n (kept .long) room small) state
-          | no ne ↦ rw (queue-stays (w .area) (w .count) p c n (kept .long) room small k (omega arith)) (kept .states k (omega arith))
+          | yes e ↦ rw (e, queue-new (w .area) (w .count) p c n (omega (arith, kept .long))) state
+          | no ne ↦ rw (queue-stays (w .area) (w .count) p c n k (omega arith)) (kept .states k (omega arith))
         ]
 
     pub kept-visit : Kept z (visit goal p c n w)
@@ -136,5 +131,5 @@ unfolding visits
 kept-visits z few goal p [] inside kept = kept
 kept-visits z few goal p (x ∷ xs) inside kept = kept-visits z few goal p xs (inside .1) (kept-visit z few goal p (x .label) (x .target) (inside .0) kept)
 
-pub zeros-cleared : Cleared (zeros 24576)
-zeros-cleared = record { long = length-zeros 24576; unmarked = λ n h. getD-zeros 24576 (8192 + n) }
+pub zeros-cleared : {all size : ℕ} → 3 * all ≤ size → Cleared all (zeros size)
+zeros-cleared {all} {size} h = record { long = rw (length-zeros size) h; unmarked = λ n lt. getD-zeros size (3 * n + 1) }

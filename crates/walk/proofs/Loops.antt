@@ -6,11 +6,12 @@ use mathlib.Core.List.{List}
 use Prim.Native.Nat.{ℕ, _+_, _-_, _≤_, _<_}
 use native.Mathlib.Omega.{arith}
 use native.Mathlib.Nat.{sub-zero}
+use lib.ListN.{length}
 use Rattle.numbered.specs.Candidates.{Step, flat}
 use Rattle.numbered.specs.declared.Sizes.{Sizes}
 use Rattle.walk.specs.Walk.{Walk, visits}
 use Rattle.walk.specs.Needed.{Kept, Going}
-use Rattle.walk.proofs.Walks.{flat-more, flat-end}
+use Rattle.walk.proofs.Walks.{visits-length, flat-more, flat-end}
 use Rattle.walk.proofs.Keeping.{Inside, kept-visits}
 
 -- To visit what is left, from the memory as it is, is to visit all, from the memory as it was.
@@ -38,6 +39,13 @@ module _ {z : Sizes} {goal : ℕ → Bool} {p : ℕ} {f : ℕ → List Step} {en
       within = omega arith;
       left = ap (visits goal p (flat f (k + 1) (end - (k + 1)))) e ∙ sym (flat-more goal p f k end is h) ∙ l .left;
     }
+
+    -- The area is as long as it was.
+    pub stays-long : length (is .area) ≡ length (was .area)
+    stays-long =
+        sym (visits-length goal p (flat f k (end - k)) is)
+        ∙ ap (λ (v : Walk). length (v .area)) (l .left)
+        ∙ visits-length goal p (flat f 0 end) was
 
     pub ends : end ≤ k → is ≡ visits goal p (flat f 0 end) was
     ends h = sym (flat-end goal p f k end is h) ∙ l .left

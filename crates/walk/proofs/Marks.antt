@@ -14,7 +14,7 @@ use Rattle.walk.specs.Needed.{Kept, Marked}
 use Rattle.walk.proofs.Walks.{visit-met, visit-new, visit-old, visits-met}
 use Rattle.walk.proofs.Entering.{mark-stays, mark-new}
 use Rattle.walk.proofs.Each.{Each}
-use Rattle.walk.proofs.Keeping.{IsState, Inside, kept-room, kept-visit}
+use Rattle.walk.proofs.Keeping.{IsState, Inside, kept-visit}
 
 module _ (goal : ℕ → Bool) (w : Walk) where
   visit-marked : (p c n : ℕ) → Marked (w .area) n → visit goal p c n w ≡ w
@@ -28,6 +28,14 @@ module _ (goal : ℕ → Bool) (w : Walk) where
   unfolding visits
   visits-marked p [] all = refl
   visits-marked p (x ∷ xs) all = ap (visits goal p xs) (visit-marked p (x .label) (x .target) (all .0)) ∙ visits-marked p xs (all .1)
+
+  -- Where each target has a mark, or the search is over, there is nothing new.
+  pub visits-done : (p : ℕ) (xs : List Step) → (w .met ≡ false → Each (Marked (w .area)) xs) → visits goal p xs w ≡ w
+  visits-done p xs all = go (w .met) refl
+    where
+      go : (b : Bool) → w .met ≡ b → visits goal p xs w ≡ w
+      go true over = visits-met goal p xs w over
+      go false unmet = visits-marked p xs (all unmet)
 
   -- A search that is not over was not over before.
   pub open-before : (p : ℕ) (xs : List Step) → visits goal p xs w .met ≡ false → w .met ≡ false
@@ -45,7 +53,7 @@ module _ (z : Sizes) (few : allStates z ≤ 8192) (goal : ℕ → Bool) (p : ℕ
         go : (b : Bool) → w .met ≡ b → Dec (mark (w .area) n ≡ 0) → Marked (visit goal p c n w .area) m
         go true e d = rw (visit-met goal p c n w e) marked
         go false e (yes new) =
-            let same = mark-stays (w .area) (w .count) p c n (kept .long) (kept-room z kept n (omega arith) new) (omega arith) m (omega arith) (λ (at : m ≡ n). marked (ap (mark (w .area)) at ∙ new)) in
+            let same = mark-stays (w .area) (w .count) p c n m (λ (at : m ≡ n). marked (ap (mark (w .area)) at ∙ new)) in
             rw (visit-new goal p c n w e new) (λ none. marked (sym same ∙ none))
         go false e (no old) = rw (visit-old goal p c n w e old) marked
 
@@ -53,7 +61,7 @@ module _ (z : Sizes) (few : allStates z ≤ 8192) (goal : ℕ → Bool) (p : ℕ
     mark-target e = go (ℕ-discrete (mark (w .area) n) 0)
       where
         go : Dec (mark (w .area) n ≡ 0) → Marked (visit goal p c n w .area) n
-        go (yes new) = rw (visit-new goal p c n w e new) (λ none. omega (arith, none, mark-new (w .area) (w .count) p c n (kept .long) (kept-room z kept n (omega arith) new) (omega arith)))
+        go (yes new) = rw (visit-new goal p c n w e new) (λ none. omega (arith, none, mark-new (w .area) (w .count) p c n (omega (arith, kept .long, state))))
         go (no old) = rw (visit-old goal p c n w e old) old
 
   pub marks-stay : (xs : List Step) → Inside z xs → {w : Walk} → Kept z w → (m : ℕ) → IsState z m → Marked (w .area) m → Marked (visits goal p xs w .area) m

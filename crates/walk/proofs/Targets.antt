@@ -1,12 +1,12 @@
 -- Every step that the loops visit leads to a state, so that a search keeps its memory to the end.
 -- Assumes nothing.
-use mathlib.Core.Path.{_≡_, refl}
+use mathlib.Core.Path.{_≡_, refl, _∙_}
 use mathlib.Core.Bool.{Bool, true, false, not, cond, _&&_}
 use mathlib.Core.List.{List}
 use Prim.Native.Nat.{ℕ, zero, suc, _+_, _<_}
 use borrow.Author.Tests.{ltb-true}
 use lib.Dec.{eqb, ltb}
-use lib.ListN.{getD}
+use lib.ListN.{length}
 use Rattle.gran.specs.Policy.{EXEC, SET-UID, SET-GID}
 use Rattle.gran.specs.Access.{has, sees}
 use Rattle.fields.specs.Fields.{entryCaps, objectCount, objectPathAt, objectModesAt}
@@ -16,8 +16,9 @@ use Rattle.numbered.specs.Candidates.{Step, roleAt, entryNumber, withSpecial, w
 use Rattle.numbered.specs.declared.Sizes.{Sizes}
 use Rattle.numbered.specs.declared.Digits.{Digits}
 use Rattle.numbered.proofs.Radix.{numberOf-lt, digits-among}
-use Rattle.walk.specs.Walk.{Walk, Cleared, visits, sweep, search}
+use Rattle.walk.specs.Walk.{Walk, queued, Cleared, visits, sweep, search}
 use Rattle.walk.specs.Needed.{Kept}
+use Rattle.walk.proofs.Walks.{visits-length}
 use Rattle.walk.proofs.Each.{each-append, each-range, each-offered, each-cond}
 use Rattle.walk.proofs.Keeping.{IsState, Inside, kept-empty, kept-visit, kept-visits}
 
@@ -103,24 +104,27 @@ inside-candidates s t {z} sized n h = inside-with s t (digits-among sized n h) (
 -- ---- so the memory stays what the loops require, to the end
 
 -- What the steps of each place of the queue keep, the whole sweep keeps.
-module _ (goal : ℕ → Bool) (steps : ℕ → List Step) (I : Walk → Type 0) (turn : (p : ℕ) (w : Walk) → p < w .count → I w → I (visits goal p (steps (getD (w .area) p 0)) w)) where
+module _ (goal : ℕ → Bool) (steps : ℕ → List Step) (I : Walk → Type 0) (turn : (p : ℕ) (w : Walk) → p < w .count → I w → I (visits goal p (steps (queued (w .area) p)) w)) where
   pub sweep-keeps : (fuel p : ℕ) (w : Walk) → I w → I (sweep goal steps fuel p w)
   unfolding sweep
   sweep-keeps zero p w k = k
-  sweep-keeps (suc fuel) p w k = go (w .met) (ltb p (w .count)) refl (sweep-keeps fuel (p + 1) (visits goal p (steps (getD (w .area) p 0)) w))
+  sweep-keeps (suc fuel) p w k = go (w .met) (ltb p (w .count)) refl (sweep-keeps fuel (p + 1) (visits goal p (steps (queued (w .area) p)) w))
     where
       v : Walk
-      v = visits goal p (steps (getD (w .area) p 0)) w
+      v = visits goal p (steps (queued (w .area) p)) w
 
       go : (m b : Bool) → ltb p (w .count) ≡ b → (I v → I (sweep goal steps fuel (p + 1) v)) → I (cond m w (cond b (sweep goal steps fuel (p + 1) v) w))
       go true b e on = k
       go false false e on = k
       go false true e on = on (turn p w (ltb-true p (w .count) e) k)
 
+pub sweep-length : (goal : ℕ → Bool) (steps : ℕ → List Step) (fuel p : ℕ) (w : Walk) → length (sweep goal steps fuel p w .area) ≡ length (w .area)
+sweep-length goal steps fuel p w = sweep-keeps goal steps (λ v. length (v .area) ≡ length (w .area)) (λ q v lt e. visits-length goal q (steps (queued (v .area) q)) v ∙ e) fuel p w refl
+
 module _ {z : Sizes} (sized : Sized z) (s t : List ℕ) (goal : ℕ → Bool) where
-  pub search-kept : (start : ℕ) (area : List ℕ) → start < allStates z → Cleared area → Kept z (search goal (candidates s t z) start area)
+  pub search-kept : (start : ℕ) (area : List ℕ) → start < allStates z → Cleared (allStates z) area → Kept z (search goal (candidates s t z) start area)
   unfolding search
   search-kept start area h clear = sweep-keeps goal (candidates s t z) (Kept z) turn 8192 0 _ (kept-visit z (sized .few) goal 0 0 start h (kept-empty z area clear))
     where
-      turn : (p : ℕ) (w : Walk) → p < w .count → Kept z w → Kept z (visits goal p (candidates s t z (getD (w .area) p 0)) w)
-      turn p w lt k = kept-visits z (sized .few) goal p (candidates s t z (getD (w .area) p 0)) (inside-candidates s t sized (getD (w .area) p 0) (k .states p lt)) k
+      turn : (p : ℕ) (w : Walk) → p < w .count → Kept z w → Kept z (visits goal p (candidates s t z (queued (w .area) p)) w)
+      turn p w lt k = kept-visits z (sized .few) goal p (candidates s t z (queued (w .area) p)) (inside-candidates s t sized (queued (w .area) p) (k .states p lt)) k

@@ -5,11 +5,12 @@ use mathlib.Core.Bool.{Bool, true, false, cond}
 use mathlib.Core.List.{List, [], _∷_, _++_}
 use Prim.Native.Nat.{ℕ, zero, suc, _+_, _-_, _≤_, _<_}
 use native.Mathlib.Omega.{arith}
-use lib.ListN.{length, getD, take, drop, length-append}
+use lib.ListN.{length, take, drop, length-append, length-set}
 use lib.Seq.{take-at}
+use lib.Dec.{eqb}
 use borrow.Author.Tests.{eq-eqb, ne-eqb, lt-ltb, le-ltb}
 use Rattle.numbered.specs.Candidates.{Step, flat}
-use Rattle.walk.specs.Walk.{Walk, mark, enter, visit, visits, sweep, Written}
+use Rattle.walk.specs.Walk.{Walk, queued, mark, enter, visit, visits, sweep, Written}
 
 module _ (goal : ℕ → Bool) where
   module _ (p c n : ℕ) (w : Walk) where
@@ -25,10 +26,25 @@ module _ (goal : ℕ → Bool) where
     unfolding visit
     visit-old e h = rw (e, ne-eqb (mark (w .area) n) 0 h)
 
+    -- A step leaves the area as long as it was.
+    pub visit-length : length (visit goal p c n w .area) ≡ length (w .area)
+    unfolding visit
+    visit-length = go (w .met) (eqb (mark (w .area) n) 0)
+      where
+        go : (m b : Bool) → length (cond m w (cond b (enter goal p c n w) w) .area) ≡ length (w .area)
+        go true b = refl
+        go false true = simp length-set
+        go false false = refl
+
   pub visits-append : (p : ℕ) (xs ys : List Step) (w : Walk) → visits goal p (xs ++ ys) w ≡ visits goal p ys (visits goal p xs w)
   unfolding visits
   visits-append p [] ys w = refl
   visits-append p (x ∷ xs) ys w = visits-append p xs ys (visit goal p (x .label) (x .target) w)
+
+  pub visits-length : (p : ℕ) (xs : List Step) (w : Walk) → length (visits goal p xs w .area) ≡ length (w .area)
+  unfolding visits
+  visits-length p [] w = refl
+  visits-length p (x ∷ xs) w = visits-length p xs (visit goal p (x .label) (x .target) w) ∙ visit-length p (x .label) (x .target) w
 
   pub visits-none : (p : ℕ) {xs : List Step} (w : Walk) → xs ≡ [] → w ≡ visits goal p xs w
   unfolding visits
@@ -57,7 +73,7 @@ module _ (goal : ℕ → Bool) where
     sweep-met zero p w e = refl
     sweep-met (suc fuel) p w e = rw e
 
-    pub sweep-more : (fuel p : ℕ) (w : Walk) → w .met ≡ false → p < w .count → sweep goal steps (suc fuel) p w ≡ sweep goal steps fuel (p + 1) (visits goal p (steps (getD (w .area) p 0)) w)
+    pub sweep-more : (fuel p : ℕ) (w : Walk) → w .met ≡ false → p < w .count → sweep goal steps (suc fuel) p w ≡ sweep goal steps fuel (p + 1) (visits goal p (steps (queued (w .area) p)) w)
     unfolding sweep
     sweep-more fuel p w e h = rw (e, lt-ltb p (w .count) h)
 

@@ -4,7 +4,7 @@ use mathlib.Core.Path.{_≡_}
 use mathlib.Core.Bool.{So}
 use mathlib.Core.List.{List, [], _∷_, _++_}
 use Prim.Native.Nat.{ℕ, suc, _-_, _<_}
-use lib.ListN.{length, getD}
+use lib.ListN.{length}
 use Rattle.gran.specs.Policy.{Policy}
 use Rattle.gran.specs.Abstract.{Act, may, next}
 use Rattle.gran.specs.Reach.{Question}
@@ -13,13 +13,13 @@ use Rattle.gran.specs.declared.State.{State}
 use Rattle.runs.specs.Search.{Queued, stateAt, parentAt, actAt}
 use Rattle.numbered.specs.Number.{Inside, stateNumber}
 use Rattle.numbered.specs.Candidates.{labelOf}
-use Rattle.walk.specs.Walk.{Walk, mark, labelled, trail}
+use Rattle.walk.specs.Walk.{Walk, queued, mark, labelled, trail}
 use Rattle.walk.specs.Needed.{Rooted}
 
 -- The memory records what was found: the state of each place, the place that it was found from, and the act's label.
 pub record Recorded (P : Policy) (w : Walk) (found : List Queued) : Type 0 where
   pub count : w .count ≡ length found
-  pub states : (k : ℕ) → k < length found → getD (w .area) k 0 ≡ stateNumber P (stateAt found k)
+  pub states : (k : ℕ) → k < length found → queued (w .area) k ≡ stateNumber P (stateAt found k)
   pub parents : (k : ℕ) → k < length found → mark (w .area) (stateNumber P (stateAt found k)) ≡ suc (parentAt found k)
   pub labels : (k : ℕ) → 0 < k → k < length found → labelled (w .area) (stateNumber P (stateAt found k)) ≡ labelOf P (stateAt found (parentAt found k)) (actAt found k)
 

@@ -15,7 +15,7 @@ use Rattle.numbered.specs.Candidates.{inImage}
 use Rattle.numbered.specs.declared.Sizes.{Sizes}
 use Rattle.numbered.specs.declared.Digits.{Digits}
 use Rattle.walk.specs.declared.Progress.{Progress}
-use Rattle.walk.specs.Walk.{Walk, mark}
+use Rattle.walk.specs.Walk.{Walk, queued, mark}
 
 -- The memory: the work area, and the numbers that the code carries.
 abbrev pub walkOf : List ℕ → Progress → Walk
@@ -28,19 +28,15 @@ unmarked area (suc n) = cond (eqb (mark area n) 0) 1 0 + unmarked area n
 
 -- The memory of a search: states stand in the queue, as many as there are marks, and only states have marks.
 pub record Kept (z : Sizes) (w : Walk) : Type 0 where
-  pub long : length (w .area) ≡ 24576
-  pub states : (k : ℕ) → k < w .count → getD (w .area) k 0 < allStates z
+  pub long : 3 * allStates z ≤ length (w .area)
+  pub states : (k : ℕ) → k < w .count → queued (w .area) k < allStates z
   pub each : w .count + unmarked (w .area) 8192 ≡ 8192
   pub beyond : (n : ℕ) → allStates z ≤ n → n < 8192 → mark (w .area) n ≡ 0
 
--- Place i of a work area is for none of the numbers from k on, below `all`: no place of the queue, no mark, no label of theirs.
-abbrev pub Apart : ℕ → ℕ → ℕ → Type 0
-Apart k all i = (n : ℕ) → k ≤ n → n < all → (i ≡ n → ⊥) × ((i ≡ 8192 + n → ⊥) × (i ≡ 16384 + n → ⊥))
-
--- A work area that is zero but for those numbers' places.
-pub record Rest (k all : ℕ) (area : List ℕ) : Type 0 where
-  pub long : length area ≡ 24576
-  pub zero : (i : ℕ) → Apart k all i → getD area i 0 ≡ 0
+-- A work area that is zero behind the numbers of so many states.
+pub record Rest (all : ℕ) (area : List ℕ) : Type 0 where
+  pub long : 3 * all ≤ length area
+  pub zero : (i : ℕ) → 3 * all ≤ i → getD area i 0 ≡ 0
 
 -- A search is at place p of its queue.
 pub record Going (z : Sizes) (p : ℕ) (w : Walk) : Type 0 where
@@ -48,12 +44,14 @@ pub record Going (z : Sizes) (p : ℕ) (w : Walk) : Type 0 where
   pub place : p < 8192
   pub sized : Sized z
 
--- Each place of the queue up to k holds a state, marked as found from an earlier place.
+-- Each place of the queue up to k holds one of the states that the area has room for, marked as found from an earlier place.
 pub record Rooted (area : List ℕ) (k : ℕ) : Type 0 where
-  pub long : length area ≡ 24576
-  pub within : k < 8192
-  pub small : (j : ℕ) → j ≤ k → getD area j 0 < 8192
-  pub earlier : (j : ℕ) → 0 < j → j ≤ k → (0 < mark area (getD area j 0)) × (mark area (getD area j 0) ≤ j)
+  pub all : ℕ
+  pub few : all ≤ 8192
+  pub long : 3 * all ≤ length area
+  pub within : k < all
+  pub small : (j : ℕ) → j ≤ k → queued area j < all
+  pub earlier : (j : ℕ) → 0 < j → j ≤ k → (0 < mark area (queued area j)) × (mark area (queued area j) ≤ j)
 
 -- ---- execs that were gone through
 
@@ -61,14 +59,20 @@ pub record Rooted (area : List ℕ) (k : ℕ) : Type 0 where
 abbrev pub Marked : List ℕ → ℕ → Type 0
 Marked area n = mark area n ≡ 0 → ⊥
 
--- The object at place i of entry e leads to the digits d, with a user and a group that the entry allows.
-pub record Leads (s t : List ℕ) (z : Sizes) (e i : ℕ) (d : Digits) : Type 0 where
+-- The object at place i of entry e, whose path is c, leads to the digits d, with a user and a group that the entry allows.
+pub record Leads (t : List ℕ) (z : Sizes) (e i c : ℕ) (d : Digits) : Type 0 where
   pub among : Among z d
-  pub object : i < objectCount s e
-  pub modes : So (sees (objectModesAt s e i) EXEC)
   pub user : So (isSet t (userReachCell e (d .user)))
   pub group : So (isSet t (groupReachCell e (d .group)))
-  pub subject : So (inImage t e i (objectPathAt s e i) (d .subject))
+  pub subject : So (inImage t e i c (d .subject))
+
+-- Every state that the object leads to under special role r was found, or the search is over.
+pub record ObjectDone (t : List ℕ) (z : Sizes) (e i c r : ℕ) (w : Walk) : Type 0 where
+  pub found : (d : Digits) → d .special ≡ r → Leads t z e i c d → w .met ≡ false → Marked (w .area) (numberOf z d)
+
+-- So for each object of entry e that can be executed.
+pub record EntryDone (s t : List ℕ) (z : Sizes) (e r : ℕ) (w : Walk) : Type 0 where
+  pub object : (i : ℕ) → i < objectCount s e → So (sees (objectModesAt s e i) EXEC) → ObjectDone t z e i (objectPathAt s e i) r w
 
 -- The flag of a special role and an entry.
 abbrev pub flagAt : ℕ → ℕ → ℕ
@@ -76,4 +80,4 @@ flagAt special e = 256 * special + e
 
 -- Where the flag of a special role and an entry is set, every state that the entry's objects lead to under that role was found.
 pub record Opened (s t : List ℕ) (z : Sizes) (flags : List ℕ) (w : Walk) : Type 0 where
-  pub found : (e i : ℕ) (d : Digits) → e < 256 → getD flags (flagAt (d .special) e) 0 ≡ 1 → Leads s t z e i d → w .met ≡ false → Marked (w .area) (numberOf z d)
+  pub entry : (e r : ℕ) → e < 256 → getD flags (flagAt r e) 0 ≡ 1 → EntryDone s t z e r w

@@ -1,6 +1,7 @@
 // A state enters the work area.
-use crate::LABELS;
-use crate::MARKS;
+use crate::EACH;
+use crate::LABEL;
+use crate::MARK;
 use crate::Progress;
 use crate::state::is_goal;
 use numbered::Sizes;
@@ -37,13 +38,14 @@ pub fn visit(
     if met == 1 {
         return w;
     }
-    let at = MARKS + n;
+    let at = EACH * n + MARK;
     if area[at] != 0 {
         return w;
     }
-    area[count] = n as u16;
+    let place = EACH * count;
+    area[place] = n as u16;
     area[at] = (p + 1) as u16;
-    let name = LABELS + n;
+    let name = EACH * n + LABEL;
     area[name] = c;
     let more = count + 1;
     let goal = is_goal(t, z, n);

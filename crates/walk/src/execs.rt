@@ -13,16 +13,19 @@ use numbered::Digits;
 use numbered::Sizes;
 use tables::cell;
 ghost use mathlib.Core.Path.{_≡_};
-ghost use mathlib.Core.Bool.{cond, _&&_};
+ghost use mathlib.Core.Bool.{So, cond, _&&_};
 ghost use Prim.Native.Nat.{_+_, _≤_, _<_};
+ghost use lib.Dec.{ltb};
 ghost use lib.ListN.{length, set};
+ghost use Rattle.runs.specs.Steps.{each};
+ghost use Rattle.fields.specs.Fields.{objectCount};
 ghost use Rattle.tables.specs.Tables.{isSet, userReachCell, groupReachCell};
 ghost use Rattle.numbered.specs.Number.{Among, Celled};
-ghost use Rattle.numbered.specs.Candidates.{goalAt, inImage, bySubject, byGroup, byUser, objectStep, objectSteps};
+ghost use Rattle.numbered.specs.Candidates.{goalAt, inImage, bySubject, byUser, objectStep, objectSteps};
 ghost use Rattle.walk.specs.Walk as spec;
 ghost use Rattle.walk.specs.Walk.{Written};
-ghost use Rattle.walk.specs.Needed.{walkOf, Going, Opened};
-ghost use Rattle.walk.specs.Image.{imageOf, isAnother, followersOf, usersAfter, groupsAfter};
+ghost use Rattle.walk.specs.Needed.{walkOf, Going, ObjectDone, EntryDone, Opened};
+ghost use Rattle.walk.specs.Image.{imageOf, isAnother, followersOf, usersAfter, groupsAfter, Below, toGroup};
 
 // Whether subject `k` is in the object's image.
 fn in_image(t: &[u8], x: Exec, k: usize) -> bool
@@ -133,8 +136,8 @@ fn exec_groups(
     d: Digits,
     w: Progress,
 ) -> Progress
-    requires { ⌜ Going z p (walkOf (now area) w) × (Among z d × ((now image ≡ imageOf (now t) (x .from) (x .place) (x .path) (z .subjects)) × (now groups ≡ groupsAfter (now t) z d (x .from)))) ⌝ }
-    ensures { λ r. ⌜ walkOf (now (area .exit)) r ≡ spec.visits (goalAt (now (t .entry)) z) p (byGroup (now (t .entry)) z d (x .from) (x .place) (x .path)) (walkOf (now (area .entry)) w) ⌝ }
+    requires { ⌜ Going z p (walkOf (now area) w) × (Among z d × ((now image ≡ imageOf (now t) (x .from) (x .place) (x .path) (z .subjects)) × Below (z .groups) (now groups))) ⌝ }
+    ensures { λ r. ⌜ walkOf (now (area .exit)) r ≡ spec.visits (goalAt (now (t .entry)) z) p (each (now (groups .entry)) (toGroup (now (t .entry)) z d (x .from) (x .place) (x .path))) (walkOf (now (area .entry)) w) ⌝ }
 {
     let mut done = w;
     let mut j = 0;
@@ -152,25 +155,40 @@ fn exec_groups(
     done
 }
 
-// To each user of the list.
+// How many of the groups go with user `j` of the list: where the entry was opened before, another than the kept user goes with the kept
+// group alone.
+fn group_count(again: bool, j: usize, count: usize) -> usize
+    ensures { λ r. ⌜ r ≡ cond (again && ltb 0 j) 1 count ⌝ }
+{
+    if again {
+        if 0 < j {
+            return 1;
+        }
+    }
+    count
+}
+
+// To each user of the list. Where the entry was opened before, the states of the other users with the other groups were found then.
 fn exec_users(
     area: &mut [u16],
     t: &[u8],
     z: Sizes,
     users: &[u8],
     groups: &[u8],
+    again: bool,
     image: &[u8],
     p: usize,
     x: Exec,
     d: Digits,
     w: Progress,
 ) -> Progress
-    requires { ⌜ Going z p (walkOf (now area) w) × (Among z d × ((now image ≡ imageOf (now t) (x .from) (x .place) (x .path) (z .subjects)) × ((now groups ≡ groupsAfter (now t) z d (x .from)) × (now users ≡ usersAfter (now t) z d (x .from))))) ⌝ }
+    requires { ⌜ Going z p (walkOf (now area) w) × (Among z d × ((now image ≡ imageOf (now t) (x .from) (x .place) (x .path) (z .subjects)) × ((now groups ≡ groupsAfter (now t) z d (x .from)) × ((now users ≡ usersAfter (now t) z d (x .from)) × (So again → ObjectDone (now t) z (x .from) (x .place) (x .path) (d .special) (walkOf (now area) w)))))) ⌝ }
     ensures { λ r. ⌜ walkOf (now (area .exit)) r ≡ spec.visits (goalAt (now (t .entry)) z) p (byUser (now (t .entry)) z d (x .from) (x .place) (x .path)) (walkOf (now (area .entry)) w) ⌝ }
 {
     let mut done = w;
     let mut j = 0;
     while j < users.len() {
+        let n = group_count(again, j, groups.len());
         let user = users[j] as usize;
         let to = Digits {
             special: d.special,
@@ -178,7 +196,7 @@ fn exec_users(
             group: d.group,
             subject: d.subject,
         };
-        done = exec_groups(area, t, z, groups, image, p, x, to, done);
+        done = exec_groups(area, t, z, &groups[..n], image, p, x, to, done);
         j += 1;
     }
     done
@@ -192,13 +210,14 @@ fn exec_object(
     z: Sizes,
     users: &[u8],
     groups: &[u8],
+    again: bool,
     p: usize,
     d: Digits,
     entry: u8,
     i: u8,
     w: Progress,
 ) -> Progress
-    requires { ⌜ Going z p (walkOf (now area) w) × (Among z d × ((now groups ≡ groupsAfter (now t) z d entry) × (now users ≡ usersAfter (now t) z d entry))) ⌝ }
+    requires { ⌜ Going z p (walkOf (now area) w) × (Among z d × ((now groups ≡ groupsAfter (now t) z d entry) × ((now users ≡ usersAfter (now t) z d entry) × ((i < objectCount (now store) entry) × (So again → EntryDone (now store) (now t) z entry (d .special) (walkOf (now area) w)))))) ⌝ }
     ensures { λ r. ⌜ walkOf (now (area .exit)) r ≡ spec.visits (goalAt (now (t .entry)) z) p (objectStep (now (store .entry)) (now (t .entry)) z d entry i) (walkOf (now (area .entry)) w) ⌝ }
 {
     let modes = Modes {
@@ -214,7 +233,7 @@ fn exec_object(
     };
     let mut image = [0u8; 64];
     let n = collect(t, x, z.subjects, &mut image);
-    exec_users(area, t, z, users, groups, &image[..n], p, x, d, w)
+    exec_users(area, t, z, users, groups, again, &image[..n], p, x, d, w)
 }
 
 // The objects of the entry in force, in its order. Which users and groups can follow is the same for each of them.
@@ -226,9 +245,10 @@ fn exec_objects(
     p: usize,
     d: Digits,
     entry: u8,
+    again: bool,
     w: Progress,
 ) -> Progress
-    requires { ⌜ Going z p (walkOf (now area) w) × Among z d ⌝ }
+    requires { ⌜ Going z p (walkOf (now area) w) × (Among z d × (So again → EntryDone (now store) (now t) z entry (d .special) (walkOf (now area) w))) ⌝ }
     ensures { λ r. ⌜ walkOf (now (area .exit)) r ≡ spec.visits (goalAt (now (t .entry)) z) p (objectSteps (now (store .entry)) (now (t .entry)) z d entry) (walkOf (now (area .entry)) w) ⌝ }
 {
     let e = entry as usize;
@@ -238,8 +258,7 @@ fn exec_objects(
     let n = followers(t, cell::USER_REACH + 16 * e, z.users, d.user, &mut users);
     let count = object_count(store, entry);
     let mut done = w;
-    let mut i = 0;
-    while i < count {
+    for i in 0..count {
         done = exec_object(
             area,
             store,
@@ -247,13 +266,13 @@ fn exec_objects(
             z,
             &users[..n],
             &groups[..m],
+            again,
             p,
             d,
             entry,
             i,
             done,
         );
-        i += 1;
     }
     done
 }
@@ -286,11 +305,12 @@ pub fn exec_once(
     ensures { λ r. ⌜ (walkOf (now (area .exit)) r ≡ spec.visits (goalAt (now (t .entry)) z) p (objectSteps (now (store .entry)) (now (t .entry)) z d entry) (walkOf (now (area .entry)) w)) × Opened (now (store .entry)) (now (t .entry)) z (now (opened .exit)) (walkOf (now (area .exit)) r) ⌝ }
 {
     let at = 256 * d.special + entry as usize;
-    if opened[at] == 1 {
+    let again = opened[at] == 1;
+    if again {
         if allows_kept(t, d, entry) {
             return w;
         }
     }
     opened[at] = 1;
-    exec_objects(area, store, t, z, p, d, entry, w)
+    exec_objects(area, store, t, z, p, d, entry, again, w)
 }

@@ -3,7 +3,7 @@
 // stands in specs/Found.antt, `Met`, and in gran's `Unreached`; proofs/Found.antt shows that it holds, so no reader need believe the rest.
 mod area;
 mod execs;
-mod state;
+pub mod state;
 mod steps;
 
 use area::visit;
@@ -26,10 +26,12 @@ ghost use Rattle.walk.specs.Walk as spec;
 ghost use Rattle.walk.specs.Walk.{Cleared, trail, Written};
 ghost use Rattle.walk.specs.Needed.{walkOf, Going, Opened, Rest, Rooted};
 
-// Where marks and labels begin in the work area.
-const MARKS: usize = 8192;
+// The work area has three numbers for each state: number 3k is place k of the queue, 3n + 1 the mark and 3n + 2 the label of state n.
+pub const EACH: usize = 3;
 
-pub const LABELS: usize = 16384;
+const MARK: usize = 1;
+
+pub const LABEL: usize = 2;
 
 // A flag for each special role and each byte that the tables may give as the entry in force.
 pub const FLAGS: usize = 2048;
@@ -81,7 +83,7 @@ fn none_opened() -> [u8; FLAGS]
 // The search from state `start`, in a cleared work area, until the access is met or every state that can be reached is found. Once all
 // states there are were found, no step can change anything: it ends there, and opens no more of them.
 pub fn search(area: &mut [u16], store: &[u8], t: &[u8], z: Sizes, start: usize) -> Progress
-    requires { ⌜ Cleared (now area) × (Sized z × (start < allStates z)) ⌝ }
+    requires { ⌜ Cleared (allStates z) (now area) × (Sized z × (start < allStates z)) ⌝ }
     ensures { λ r. ⌜ walkOf (now (area .exit)) r ≡ spec.search (goalAt (now (t .entry)) z) (candidates (now (store .entry)) (now (t .entry)) z) start (now (area .entry)) ⌝ }
 {
     let none = Progress { count: 0, met: 0 };
@@ -97,7 +99,8 @@ pub fn search(area: &mut [u16], store: &[u8], t: &[u8], z: Sizes, start: usize) 
         if w.count == all {
             return w;
         }
-        let n = area[p] as usize;
+        let place = EACH * p;
+        let n = area[place] as usize;
         w = expand(area, store, t, z, p, n, &mut opened, w);
         p += 1;
     }
@@ -117,32 +120,25 @@ pub fn clear(area: &mut [u16])
 
 // Zero again in every number that a search can have set: where there are few states, far fewer than all.
 pub fn wipe(area: &mut [u16], z: Sizes)
-    requires { ⌜ Sized z × Rest 0 (allStates z) (now area) ⌝ }
-    ensures { λ _. ⌜ now (area .exit) ≡ zeros 24576 ⌝ }
+    requires { ⌜ Sized z × Rest (allStates z) (now area) ⌝ }
+    ensures { λ _. ⌜ now (area .exit) ≡ zeros (length (now (area .entry))) ⌝ }
 {
-    let all = all_states(z);
-    let mut i = 0;
-    while i < all {
-        let at = MARKS + i;
-        let name = LABELS + i;
-        area[i] = 0;
-        area[at] = 0;
-        area[name] = 0;
-        i += 1;
-    }
+    let size = EACH * all_states(z);
+    clear(&mut area[..size]);
 }
 
 // The queue's places from `k` back to the start, the start's own left out; how many.
 pub fn trace(area: &[u16], k: usize, out: &mut [u16]) -> usize
-    requires { ⌜ Rooted (now area) k × (8192 ≤ length (now out)) ⌝ }
+    requires { ⌜ Rooted (now area) k × (k ≤ length (now out)) ⌝ }
     ensures { λ r. ⌜ Written (trail (now (area .entry)) 8192 k) (now (out .entry)) (now (out .exit)) r ⌝ }
 {
     let mut at = k;
     let mut n = 0;
     while at != 0 {
         out[n] = at as u16;
-        let s = area[at] as usize;
-        let from = MARKS + s;
+        let place = EACH * at;
+        let s = area[place] as usize;
+        let from = EACH * s + MARK;
         at = (area[from] - 1) as usize;
         n += 1;
     }

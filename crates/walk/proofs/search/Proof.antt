@@ -6,15 +6,15 @@ use mathlib.Core.Path.{_≡_, refl, sym, ap, _∙_}
 use Prim.Native.Nat.{ℕ, suc, _+_, _≤_, _<_, _-_}
 use native.Mathlib.Omega.{arith}
 use borrow.Author.Tests.{eq-eqb, ne-eqb}
-use lib.ListN.{getD}
+use lib.ListN.{length}
 use Rattle.numbered.specs.Candidates.{goalAt, candidates}
-use Rattle.walk.specs.Walk.{Walk, sweep, search}
+use Rattle.walk.specs.Walk.{Walk, queued, empty, sweep, search}
 use Rattle.walk.specs.Needed.{walkOf, Kept, Opened}
-use Rattle.walk.proofs.Walks.{sweep-met, sweep-more, sweep-done}
-use Rattle.walk.proofs.Keeping.{kept-empty, kept-count, kept-visit, kept-visits}
+use Rattle.walk.proofs.Walks.{visit-length, sweep-met, sweep-more, sweep-done}
+use Rattle.walk.proofs.Keeping.{kept-empty, kept-count, kept-most, kept-visit, kept-visits}
 use Rattle.walk.proofs.Full.{sweep-full}
 use Rattle.walk.proofs.Again.{none-set}
-use Rattle.walk.proofs.Targets.{inside-candidates}
+use Rattle.walk.proofs.Targets.{inside-candidates, sweep-length}
 use Rattle.walk.proofs.search.Statement.{statement}
 use Rattle.walk.proofs.search.Tie as tie
 
@@ -46,6 +46,17 @@ whole a over =
     let s = entry a in
     sym over ∙ a .loop .inv .1 .1 .0 ∙ ap (sweep (goalAt (s .args .t .now) (s .args .z)) (candidates (s .args .store .now) (s .args .t .now) (s .args .z)) 8192 0) (a .before .before .before .visit .ensures)
 
+-- The area is as long as it was.
+same : (a : tie.At-loop Inv-loop μ-loop) → length (a .loop .area) ≡ length (entry a .args .area .now)
+same a =
+    let s = entry a in
+    let goal = goalAt (s .args .t .now) (s .args .z) in
+    let steps = candidates (s .args .store .now) (s .args .t .now) (s .args .z) in
+    let first = a .before .before .before .visit in
+    sym (sweep-length goal steps (8192 - a .loop .p) (a .loop .p) (memory a)) ∙ ap (λ (v : Walk). length (v .area)) (a .loop .inv .1 .1 .0)
+    ∙ sweep-length goal steps 8192 0 (walkOf (first .last .0) (first .result)) ∙ ap (λ (v : Walk). length (v .area)) (first .ensures)
+    ∙ visit-length goal 0 0 (s .args .start) (empty (s .args .area .now))
+
 all-states-requires : tie.Need-all-states-requires Inv-loop μ-loop
 all-states-requires c κs = c .before .before .before .pre .1 .0
 
@@ -66,7 +77,7 @@ loop-holds c =
     (rw (first .ensures) kept, (omega arith, (refl, none-set (walkOf (first .last .0) (first .result)) (c .before .before .before .before .none-opened .ensures))))
 
 same-length : tie.Need-same-length Inv-loop μ-loop
-same-length c = let a = c .before .before .before in a .loop .inv .0 .long ∙ sym (entry a .pre .0 .long)
+same-length c = same (c .before .before .before)
 
 returns : tie.Need-returns Inv-loop μ-loop
 returns c =
@@ -75,7 +86,7 @@ returns c =
     whole a (sweep-met (goalAt (s .args .t .now) (s .args .z)) (candidates (s .args .store .now) (s .args .t .now) (s .args .z)) (8192 - a .loop .p) (a .loop .p) (memory a) (eq-eqb _ _ (c .if2 .taken)))
 
 same-length-2 : tie.Need-same-length-2 Inv-loop μ-loop
-same-length-2 c = let a = c .before .before .before .before .before in a .loop .inv .0 .long ∙ sym (entry a .pre .0 .long)
+same-length-2 c = same (c .before .before .before .before .before)
 
 returns-2 : tie.Need-returns-2 Inv-loop μ-loop
 returns-2 c =
@@ -85,11 +96,14 @@ returns-2 c =
     whole a (sweep-full (s .args .z) (s .pre .1 .0 .few) (goalAt (s .args .t .now) (s .args .z)) (memory a) (a .loop .inv .0) all
     (candidates (s .args .store .now) (s .args .t .now) (s .args .z)) (inside-candidates (s .args .store .now) (s .args .t .now) (s .pre .1 .0)) (8192 - a .loop .p) (a .loop .p))
 
+mul-place : tie.Need-mul-place Inv-loop μ-loop
+mul-place c = omega (arith, bound (c .before .before .before .before .before))
+
 mul-n : tie.Need-mul-n Inv-loop μ-loop
 mul-n c = omega (arith, bound (c .before .before .before .before .before))
 
 slice-read-n : tie.Need-slice-read-n Inv-loop μ-loop
-slice-read-n c = let a = c .before .before .before .before .before .before in omega (arith, bound a, a .loop .inv .0 .long)
+slice-read-n c = let a = c .before .before .before .before .before .before in omega (arith, kept-most (entry a .args .z) (entry a .pre .1 .0 .few) (a .loop .inv .0), a .loop .inv .0 .long)
 
 cast-n : tie.Need-cast-n Inv-loop μ-loop
 cast-n c = let a = c .before .before .before .before .before .before in omega (arith, a .loop .inv .0 .states (a .loop .p) (omega arith), entry a .pre .1 .0 .few)
@@ -118,7 +132,7 @@ loop-again c =
     let most : w .count ≤ 8192 = bound a in
     let fuel : 8192 - p ≡ suc (8192 - (p + 1)) = omega arith in
     let turned = c .before .before .expand .ensures .0 in (
-      rw turned (kept-visits z (s .pre .1 .0 .few) goal p (steps (getD (w .area) p 0)) (inside-candidates (s .args .store .now) (s .args .t .now) (s .pre .1 .0) (getD (w .area) p 0) (a .loop .inv .0 .states p here)) (a .loop .inv .0)),
+      rw turned (kept-visits z (s .pre .1 .0 .few) goal p (steps (queued (w .area) p)) (inside-candidates (s .args .store .now) (s .args .t .now) (s .pre .1 .0) (queued (w .area) p) (a .loop .inv .0 .states p here)) (a .loop .inv .0)),
       (
         omega arith,
         (
@@ -131,7 +145,7 @@ loop-again c =
     )
 
 same-length-3 : tie.Need-same-length-3 Inv-loop μ-loop
-same-length-3 c = let a = c .before .before in a .loop .inv .0 .long ∙ sym (entry a .pre .0 .long)
+same-length-3 c = same (c .before .before)
 
 returns-3 : tie.Need-returns-3 Inv-loop μ-loop
 returns-3 c =
@@ -153,6 +167,7 @@ search-spec =
     returns
     same-length-2
     returns-2
+    mul-place
     mul-n
     slice-read-n
     cast-n

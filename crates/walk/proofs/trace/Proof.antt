@@ -2,10 +2,10 @@
 -- Assumes nothing.
 use mathlib.Core.Path.{_≡_, sym, ap, _∙_}
 use mathlib.Core.List.{List, _++_}
-use Prim.Native.Nat.{ℕ, _+_, _≤_, _<_}
+use Prim.Native.Nat.{ℕ, _+_, _*_, _≤_, _<_}
 use native.Mathlib.Omega.{arith}
-use lib.ListN.{length, getD, drop}
-use Rattle.walk.specs.Walk.{mark, trail}
+use lib.ListN.{length, drop}
+use Rattle.walk.specs.Walk.{queued, mark, trail}
 use Rattle.walk.proofs.Back.{Back, starts, back-length, goes-back, back-ends}
 use Rattle.walk.proofs.trace.Statement.{statement}
 use Rattle.walk.proofs.trace.Tie as tie
@@ -18,15 +18,16 @@ abbrev μ-loop : tie.MeasureT-loop
 
 -- What a turn knows of its numbers.
 bounds : (c : tie.In-loop Inv-loop μ-loop) → let s = c .before .before in let l = c .before .loop in
-    (l .n + l .at ≤ s .args .k) × (s .args .k < 8192) × (length (s .args .area .now) ≡ 24576) × (8192 ≤ length (s .args .out .now)) × (length (l .out) ≡ length (s .args .out .now)) × (getD (s .args .area .now) (l .at) 0 < 8192)
+    (l .n + l .at ≤ s .args .k) × (s .args .k < s .pre .0 .all) × (s .pre .0 .all ≤ 8192) × (3 * s .pre .0 .all ≤ length (s .args .area .now)) × (s .args .k ≤ length (s .args .out .now)) × (length (l .out) ≡ length (s .args .out .now))
+    × (queued (s .args .area .now) (l .at) < s .pre .0 .all)
 bounds c =
     let s = c .before .before in
     let l = c .before .loop in
     let few : l .n + l .at ≤ s .args .k = l .inv .falls in
-    (few, s .pre .0 .within, s .pre .0 .long, s .pre .1, back-length (s .args .area .now) (s .args .k) (s .pre .0) (s .pre .1) (l .inv), s .pre .0 .small (l .at) (omega arith))
+    (few, s .pre .0 .within, s .pre .0 .few, s .pre .0 .long, s .pre .1, back-length (s .args .area .now) (s .args .k) (s .pre .0) (s .pre .1) (l .inv), s .pre .0 .small (l .at) (omega arith))
 
 parent : (c : tie.In-loop Inv-loop μ-loop) → let s = c .before .before in let l = c .before .loop in
-    (0 < mark (s .args .area .now) (getD (s .args .area .now) (l .at) 0)) × (mark (s .args .area .now) (getD (s .args .area .now) (l .at) 0) ≤ l .at)
+    (0 < mark (s .args .area .now) (queued (s .args .area .now) (l .at))) × (mark (s .args .area .now) (queued (s .args .area .now) (l .at)) ≤ l .at)
 parent c =
     let s = c .before .before in
     let l = c .before .loop in
@@ -46,6 +47,9 @@ mul-out c = omega (arith, bounds c)
 slice-write-out : tie.Need-slice-write-out Inv-loop μ-loop
 slice-write-out c = omega (arith, bounds c)
 
+mul-place : tie.Need-mul-place Inv-loop μ-loop
+mul-place c = omega (arith, bounds c)
+
 mul-s : tie.Need-mul-s Inv-loop μ-loop
 mul-s c = omega (arith, bounds c)
 
@@ -54,6 +58,9 @@ shared-slice-read-s c = omega (arith, bounds (c .before))
 
 cast-s : tie.Need-cast-s Inv-loop μ-loop
 cast-s c = omega (arith, bounds (c .before))
+
+mul-from : tie.Need-mul-from Inv-loop μ-loop
+mul-from c = omega (arith, bounds (c .before))
 
 add-from : tie.Need-add-from Inv-loop μ-loop
 add-from c = omega (arith, bounds (c .before))
@@ -105,9 +112,11 @@ trace-spec =
     cast-out
     mul-out
     slice-write-out
+    mul-place
     mul-s
     shared-slice-read-s
     cast-s
+    mul-from
     add-from
     mul-at
     shared-slice-read-at

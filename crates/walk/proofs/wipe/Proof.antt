@@ -1,87 +1,55 @@
--- `walk::wipe` meets its contract. The loop's invariant: all is zero but for the states from i on. The measure is what is left of these.
+-- `walk::wipe` meets its contract: the states' numbers are cleared, and what lies behind them is zero.
 -- Assumes nothing.
-use mathlib.Core.Path.{_≡_, sym, _∙_}
-use Prim.Native.Nat.{_-_, _≤_}
+use mathlib.Core.Path.{sym, ap, _∙_}
+use mathlib.Core.List.{List, _++_}
+use Prim.Native.Nat.{ℕ, _*_}
 use native.Mathlib.Omega.{arith}
 use borrow.Author.Needs.{needs}
-use lib.ListN.{length-set}
+use lib.ListN.{drop}
+use lib.Seq.{length-take-le}
+use Rattle.lines.specs.Line.{zeros}
 use Rattle.walk.specs.Needed.{Rest}
-use Rattle.walk.proofs.Rests.{rest-more, rest-none}
+use Rattle.walk.proofs.Rests.{rest-none}
 use Rattle.walk.proofs.wipe.Statement.{statement}
 use Rattle.walk.proofs.wipe.Tie as tie
 
-abbrev Inv-loop : tie.InvT-loop
-Inv-loop area₀ all i₀ area i = (i ≤ all) × ((all ≤ 8192) × Rest i all area)
+-- The rest, with the states as they were counted.
+rest : (c : tie.After-all-states) → let s = c .before .before in Rest (c .all-states .result) (s .args .area .now)
+rest c = rw (c .all-states .ensures) (c .before .before .pre .1)
 
-abbrev μ-loop : tie.MeasureT-loop
-μ-loop area₀ all i₀ area i = all - i
-
-all-states-requires : tie.Need-all-states-requires Inv-loop μ-loop
+all-states-requires : tie.Need-all-states-requires
 all-states-requires c κs = search needs
 
-loop-holds : tie.Need-loop-holds Inv-loop μ-loop
-loop-holds c = let s = c .before .before in rw (c .all-states .ensures) (omega arith, (s .pre .0 .few, s .pre .1))
+mul-size : tie.Need-mul-size
+mul-size c = omega (arith, c .all-states .ensures, c .before .before .pre .0 .few)
 
-add-at : tie.Need-add-at Inv-loop μ-loop
-add-at c = omega arith
+slice-relend-prefix-clear : tie.Need-slice-relend-prefix-clear
+slice-relend-prefix-clear c = rest c .long
 
-add-name : tie.Need-add-name Inv-loop μ-loop
-add-name c = omega arith
+slice-aggregate-clear : tie.Need-slice-aggregate-clear
+slice-aggregate-clear c = sym (length-take-le (3 * c .before .all-states .result) (c .before .before .before .args .area .now) (rest (c .before) .long))
 
-mul-area : tie.Need-mul-area Inv-loop μ-loop
-mul-area c = omega arith
+clear-requires : tie.Need-clear-requires
+clear-requires c κs = search needs
 
-slice-write-area : tie.Need-slice-write-area Inv-loop μ-loop
-slice-write-area c = omega arith
+same-length : tie.Need-same-length
+same-length c = search needs
 
-mul-area-2 : tie.Need-mul-area-2 Inv-loop μ-loop
-mul-area-2 c = omega arith
-
-slice-write-area-2 : tie.Need-slice-write-area-2 Inv-loop μ-loop
-slice-write-area-2 c = simp length-set (omega arith)
-
-mul-area-3 : tie.Need-mul-area-3 Inv-loop μ-loop
-mul-area-3 c = omega arith
-
-slice-write-area-3 : tie.Need-slice-write-area-3 Inv-loop μ-loop
-slice-write-area-3 c = simp length-set (omega arith)
-
-add-i : tie.Need-add-i Inv-loop μ-loop
-add-i c = omega arith
-
-loop-less : tie.Need-loop-less Inv-loop μ-loop
-loop-less c = omega arith
-
-loop-again : tie.Need-loop-again Inv-loop μ-loop
-loop-again c = let l = c .before .loop in (omega arith, (l .inv .1 .0, rest-more (omega arith) (l .inv .1 .0) (l .inv .1 .1)))
-
-same-length : tie.Need-same-length Inv-loop μ-loop
-same-length c = c .before .loop .inv .1 .1 .long ∙ sym (c .before .before .before .before .pre .1 .long)
-
-returns : tie.Need-returns Inv-loop μ-loop
+returns : tie.Need-returns
 returns c =
-    let l = c .before .loop in
-    let over : l .i ≡ c .before .before .all-states .result = omega arith in
-    rest-none (rw over at (l .inv .1 .1))
+    let a = c .before .before .before .before in
+    let area = a .before .before .args .area .now in
+    let size : ℕ = 3 * a .all-states .result in
+    ap (λ (l : List ℕ). l ++ drop size area) (c .before .before .clear .ensures ∙ ap zeros (length-take-le size area (rest a .long))) ∙ rest-none (rest a)
 
 pub wipe-spec : {M : Type 1} → statement M
 wipe-spec =
     tie.close
     (tie.spec
-    Inv-loop
-    μ-loop
     all-states-requires
-    loop-holds
-    add-at
-    add-name
-    mul-area
-    slice-write-area
-    mul-area-2
-    slice-write-area-2
-    mul-area-3
-    slice-write-area-3
-    add-i
-    loop-less
-    loop-again
+    mul-size
+    slice-relend-prefix-clear
+    slice-aggregate-clear
+    clear-requires
     same-length
     returns)

@@ -1,10 +1,13 @@
 -- `execs::exec_once` meets its contract: where the flag is set there is nothing new, and else it may be set.
 -- Assumes nothing.
+use borrow.Author.Tests.{eqb-true}
 use borrow.Author.Needs.{needs}
 use mathlib.Core.Path.{sym, _∙_}
 use native.Mathlib.Omega.{arith}
+use lib.ListN.{getD}
 use Rattle.numbered.specs.Candidates.{goalAt}
 use Rattle.numbered.proofs.Radix.{among-celled}
+use Rattle.walk.specs.Needed.{flagAt}
 use Rattle.walk.proofs.Again.{opened-more, opened-again}
 use Rattle.walk.proofs.execs.exec_once.Statement.{statement}
 use Rattle.walk.proofs.execs.exec_once.Tie as tie
@@ -15,8 +18,8 @@ mul-at c = search needs
 add-at : tie.Need-add-at
 add-at c = search needs
 
-element-copy-out-if1 : tie.Need-element-copy-out-if1
-element-copy-out-if1 c = search needs
+element-copy-out-again : tie.Need-element-copy-out-again
+element-copy-out-again c = search needs
 
 allows-kept-requires : tie.Need-allows-kept-requires
 allows-kept-requires c κs = let h = c .before .before .before .before .before .before .pre in among-celled (h .0 .sized) (h .1 .0)
@@ -25,7 +28,7 @@ returns : tie.Need-returns
 returns c =
     let s = c .before .before .before .before .before .before .before .before in
     let a = s .args in (
-      opened-again (s .pre .1 .1) (s .pre .0) (goalAt (a .t .now) (a .z)) (a .d) (s .pre .1 .0) (a .entry) (omega arith) (c .before .before .if1 .taken) (sym (c .before .allows-kept .ensures) ∙ c .if2 .taken),
+      opened-again (s .pre .1 .1) (s .pre .0) (goalAt (a .t .now) (a .z)) (a .d) (s .pre .1 .0) (a .entry) (omega arith) (eqb-true _ 1 (c .before .before .if1 .taken)) (sym (c .before .allows-kept .ensures) ∙ c .if2 .taken),
       s .pre .1 .1,
     )
 
@@ -33,7 +36,10 @@ element-write-opened : tie.Need-element-write-opened
 element-write-opened c = search needs
 
 exec-objects-requires : tie.Need-exec-objects-requires
-exec-objects-requires c κs = search needs
+exec-objects-requires c κs =
+    let s = c .before .before .before .before .before .before .before in
+    let a = s .args in
+    (s .pre .0, (s .pre .1 .0, λ again. s .pre .1 .1 .entry (a .entry) (a .d .special) (omega arith) (eqb-true (getD (a .opened .now) (flagAt (a .d .special) (a .entry)) 0) 1 again)))
 
 same-length : tie.Need-same-length
 same-length c = search needs
@@ -51,7 +57,7 @@ exec-once-spec =
     (tie.spec
     mul-at
     add-at
-    element-copy-out-if1
+    element-copy-out-again
     allows-kept-requires
     returns
     element-write-opened

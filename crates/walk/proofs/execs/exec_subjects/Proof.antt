@@ -1,6 +1,6 @@
 -- `execs::exec_subjects` meets its contract, by the laws of a loop that visits steps. The measure is what is left of the image.
 -- Assumes nothing.
-use mathlib.Core.Path.{_≡_, sym, ap, _∙_}
+use mathlib.Core.Path.{_≡_, ap, _∙_}
 use mathlib.Core.List.{List, []}
 use Prim.Native.Nat.{ℕ, _+_, _-_, _<_}
 use native.Mathlib.Omega.{arith}
@@ -13,7 +13,7 @@ use Rattle.walk.specs.Walk.{visits}
 use Rattle.walk.specs.Needed.{walkOf}
 use Rattle.walk.specs.Image.{imageOf}
 use Rattle.numbered.proofs.Radix.{numberOf-lt}
-use Rattle.walk.proofs.Loops.{Left, begins, turns, ends}
+use Rattle.walk.proofs.Loops.{Left, begins, turns, stays-long, ends}
 use Rattle.walk.proofs.Targets.{among-subject}
 use Rattle.walk.proofs.Images.{at, toSubject, listed-lt, image-steps}
 use Rattle.walk.proofs.execs.exec_subjects.Statement.{statement}
@@ -77,7 +77,7 @@ unfolding visits
 loop-again c = turns (c .before .before .before .before .before .before .loop .inv) (omega arith) (target (c .before .before .before .before .before), tt) (c .before .before .visit .ensures)
 
 same-length : tie.Need-same-length Inv-loop μ-loop
-same-length c = c .before .loop .inv .going .kept .long ∙ sym (c .before .before .before .before .before .before .before .pre .0 .kept .long)
+same-length c = stays-long (c .before .loop .inv)
 
 returns : tie.Need-returns Inv-loop μ-loop
 returns c =

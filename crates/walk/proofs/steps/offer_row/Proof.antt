@@ -1,14 +1,14 @@
 -- `steps::offer_row` meets its contract, by the laws of a loop that visits steps. The measure is what is left of the row.
 -- Assumes nothing.
 use borrow.Author.Needs.{needs}
-use mathlib.Core.Path.{_≡_, sym, _∙_}
+use mathlib.Core.Path.{_≡_}
 use Prim.Native.Nat.{_+_, _*_, _-_}
 use native.Mathlib.Omega.{arith}
 use native.Mathlib.Nat.{add-mul}
 use Rattle.numbered.specs.Candidates.{goalAt}
 use Rattle.walk.specs.Needed.{walkOf}
 use Rattle.walk.specs.Row.{rowStep}
-use Rattle.walk.proofs.Loops.{Left, begins, turns, ends}
+use Rattle.walk.proofs.Loops.{Left, begins, turns, stays-long, ends}
 use Rattle.walk.proofs.Rows.{inside-row}
 use Rattle.walk.proofs.steps.offer_row.Statement.{statement}
 use Rattle.walk.proofs.steps.offer_row.Tie as tie
@@ -55,7 +55,7 @@ loop-again c =
     )
 
 same-length : tie.Need-same-length Inv-loop μ-loop
-same-length c = c .before .loop .inv .0 .going .kept .long ∙ sym (c .before .before .before .before .pre .0 .kept .long)
+same-length c = stays-long (c .before .loop .inv .0)
 
 returns : tie.Need-returns Inv-loop μ-loop
 returns c = ends (c .before .loop .inv .0) (c .loop-test .left)
