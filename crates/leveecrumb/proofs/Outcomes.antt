@@ -13,7 +13,7 @@ use Rattle.fields.specs.Fields.{policyIn}
 use Rattle.fields.proofs.Again.{policy-again}
 use Rattle.policy.specs.Load.{Reading, refused, accepted, reading, settled, outcome, LoadedAs}
 use Rattle.load.proofs.Callers.{loaded-holds}
-use Rattle.reply.specs.Reply.{Held, Responded}
+use Rattle.reply.specs.Reply.{Held, Answers}
 use Rattle.reply.proofs.Loads.{held-of}
 use Rattle.ask.specs.declared.Answer.{Answer}
 use Rattle.ask.specs.declared.Answer.the-variants.{Refused}
@@ -85,12 +85,12 @@ module _ (places work : ℕ) (text : List ℕ) (a : Asked) (lent : Areas) (numbe
     pub holds-after : Held left
     holds-after = let (P, e, L) = loaded-holds text (lent .store) line left loads-so in held-of L
 
-    pub comes-answered : (r : Answer) (front area room : List ℕ) → front ≡ zeros places → Responded (policyIn left) a (lent .room) r room area
+    pub comes-answered : (r : Answer) (front room : List ℕ) → front ≡ zeros places → Answers (policyIn left) a (lent .room) r room
         → ComesTo places first text a lent (record { answer = r; left = record { store = left; work = front ++ drop places (lent .work); room = room } })
-    comes-answered r front area room f d =
+    comes-answered r front room f d =
         let (P, e, L) = loaded-holds text (lent .store) line left loads-so in
         rw (passed, e) (go P L (rw (policy-again L) at d))
       where
-        go : (P : Policy) → Loaded P (drop 16384 (lent .store)) left → Responded P a (lent .room) r room area
+        go : (P : Policy) → Loaded P (drop 16384 (lent .store)) left → Answers P a (lent .room) r room
             → Comes places (accepted P) a lent (record { answer = r; left = record { store = left; work = front ++ drop places (lent .work); room = room } })
-        go P L d = (d .answers .lines, d .answers .right, rw (d .answers .told .answer, d .answers .told .room, f, L .stored))
+        go P L d = (d .lines, d .right, rw (d .told .answer, d .told .room, f, L .stored))

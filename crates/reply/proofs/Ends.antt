@@ -1,13 +1,14 @@
 -- The end of a search: the answer that it gives, and the run that is to be written.
 -- Assumes nothing.
-use mathlib.Core.Path.{_≡_, sym, ap, _∙_}
+use mathlib.Core.Path.{_≡_, sym, ap, subst, _∙_}
 use mathlib.Core.List.{List, _++_}
-use Prim.Native.Nat.{ℕ, _+_, _-_, _≤_, _<_}
+use Prim.Native.Nat.{ℕ, _+_, _*_, _-_, _≤_, _<_}
 use native.Mathlib.Nat.{zero-add}
 use native.Mathlib.Omega.{arith}
 use borrow.Author.Tests.{le-leb, lt-leb, eq-eqb, ne-eqb}
-use lib.ListN.{length, getD, length-append}
+use lib.ListN.{length, length-append}
 use Rattle.lines.specs.Line.{zeros, inFront}
+use Rattle.gran.specs.Policy.{Policy}
 use Rattle.gran.specs.Real.{stateOf, started}
 use Rattle.gran.specs.Abstract.{Act, abstract}
 use Rattle.gran.specs.declared.Process.{Process}
@@ -22,7 +23,7 @@ use Rattle.records.specs.Record.{recordsOf, stepLines, summary, written, PutAs}
 use Rattle.records.proofs.Bytes.{stepLines-most, recordsOf-length, summary-length}
 use Rattle.records.proofs.Putting.{putting-starts}
 use Rattle.tables.specs.Tables.{Tabled}
-use Rattle.walk.specs.Walk.{Walk, Cleared, search, trail, Written}
+use Rattle.walk.specs.Walk.{Walk, queued, Cleared, search, trail, Written}
 use Rattle.walk.specs.Needed.{walkOf, Kept, Rest}
 use Rattle.walk.specs.declared.Progress.{Progress}
 use Rattle.walk.proofs.Keeping.{kept-count, zeros-cleared}
@@ -31,7 +32,7 @@ use Rattle.walk.proofs.Rests.{search-rest}
 use Rattle.walk.proofs.Found.{search-never, search-met}
 use Rattle.ask.specs.Ask.{Asked, Lines, never, reached, startOf, questionOf, roomWith, answerWith}
 use Rattle.ask.specs.declared.Answer.the-variants.{Answered, Short}
-use Rattle.reply.specs.Reply.{Held, Ready, Told}
+use Rattle.reply.specs.Reply.{Held, Ready, Told, Blank}
 use Rattle.reply.specs.Run.{realAfter, stateAfter, Traced, Lying, Writable, Wrote, Ended}
 use Rattle.reply.proofs.Digits.{ready-sized, start-inside}
 use Rattle.reply.proofs.Places.{shownActs, traced-of}
@@ -99,7 +100,7 @@ module _ {s t area : List ℕ} {z : Sizes} {w : Progress} {start : Process} (g :
         }
 
         -- Nothing of it is written yet but the first line.
-        pub wrote-none : (at : ℕ) (room : List ℕ) → PutAs (summary 1 (w .count - 1) n) 0 before at room → Wrote writable-of 0 (record { at = at; from = getD area 0 0; process = start }) room
+        pub wrote-none : (at : ℕ) (room : List ℕ) → PutAs (summary 1 (w .count - 1) n) 0 before at room → Wrote writable-of 0 (record { at = at; from = queued area 0; process = start }) room
         unfolding writable-of stateAfter realAfter
         wrote-none at room p =
             let some : 0 < length (g .met m .found) = omega (arith, g .met m .some, g .met m .recorded .count) in
@@ -120,8 +121,10 @@ module _ {s t area : List ℕ} {z : Sizes} {w : Progress} {start : Process} (g :
 pub ready-of : {s t : List ℕ} {z : Sizes} (a : Asked) → Held s → Tabled (policyIn s) (questionOf a) t → z ≡ sizesOf (policyIn s) → Ready (questionOf a) s t z
 ready-of a h t e = record { held = h; tabled = t; sizes = e }
 
-pub clear-of : {area : List ℕ} → area ≡ zeros 24576 → Cleared area
-clear-of e = rw e zeros-cleared
+pub clear-of : {P : Policy} {area : List ℕ} → Blank P area → {z : Sizes} → z ≡ sizesOf P → Cleared (allStates z) area
+clear-of {P} {area} b {z} e =
+    let long : 3 * allStates z ≤ length area = rw e (b .long) in
+    rw (b .zero) (zeros-cleared long)
 
 module _ {s t : List ℕ} {z : Sizes} (a : Asked) (r : Ready (questionOf a) s t z) (from : ℕ) (number : from ≡ stateNumber (policyIn s) (abstract (policyIn s) (startOf a))) where
   pub inside : Inside (policyIn s) (abstract (policyIn s) (startOf a))
@@ -131,12 +134,12 @@ module _ {s t : List ℕ} {z : Sizes} (a : Asked) (r : Ready (questionOf a) s t 
   unfolding stateNumber
   start-state = rw (number, r .sizes) (numberOf-lt (places-among (policyIn s) (abstract (policyIn s) (startOf a)) inside))
 
-  module _ {area after : List ℕ} (clear : Cleared area) (w : Progress) (e : walkOf after w ≡ search (goalAt t z) (candidates s t z) from area) where
+  module _ {area after : List ℕ} (clear : Cleared (allStates z) area) (w : Progress) (e : walkOf after w ≡ search (goalAt t z) (candidates s t z) from area) where
     -- In an area that was zero, the states' numbers alone are set.
-    pub rest : area ≡ zeros 24576 → Rest 0 (allStates z) after
+    pub rest : area ≡ zeros (length area) → Rest (allStates z) after
     rest blank =
-        let is : after ≡ search (goalAt t z) (candidates s t z) from (zeros 24576) .area = ap (λ (x : Walk). x .area) e ∙ ap (λ (l : List ℕ). search (goalAt t z) (candidates s t z) from l .area) blank in
-        rw is (search-rest (ready-sized r) s t (goalAt t z) from start-state)
+        let is : after ≡ search (goalAt t z) (candidates s t z) from (zeros (length area)) .area = ap (λ (x : Walk). x .area) e ∙ ap (λ (l : List ℕ). search (goalAt t z) (candidates s t z) from l .area) blank in
+        rw is (search-rest (ready-sized r) s t (goalAt t z) from start-state (length area) (clear .long))
 
     pub kept : Kept z (walkOf after w)
     kept = rw e (search-kept (ready-sized r) s t (goalAt t z) from area start-state clear)
@@ -147,6 +150,9 @@ module _ {s t : List ℕ} {z : Sizes} (a : Asked) (r : Ready (questionOf a) s t 
         e ∙ ap (λ (y : Sizes). search (goalAt t y) (candidates s t y) from area) (r .sizes)
         ∙ ap (λ (n : ℕ). search (goalAt t (sizesOf (policyIn s))) (candidates s t (sizesOf (policyIn s))) n area) number
 
+    pub cleared : Cleared (allStates (sizesOf (policyIn s))) area
+    cleared = subst (λ (y : Sizes). Cleared (allStates y) area) (r .sizes) clear
+
     unfoldable pub ended-of : (start : Process) → start ≡ started (a .uid) (a .gid) → Ended s t after z w start
     ended-of start b = record {
       asked = a;
@@ -154,7 +160,7 @@ module _ {s t : List ℕ} {z : Sizes} (a : Asked) (r : Ready (questionOf a) s t 
       starts = ap (stateOf (policyIn s) (a .start)) b ∙ started-is (policyIn s) (a .start) (a .uid) (a .gid);
       few = kept-count z kept;
       never = λ m.
-          let all = search-never (policyIn s) _ s (questionOf a) t (r .held) (r .tabled) (abstract (policyIn s) (startOf a)) inside area clear (ap (λ (x : Walk). x .met) (sym found) ∙ ne-eqb _ _ m) in
+          let all = search-never (policyIn s) _ s (questionOf a) t (r .held) (r .tabled) (abstract (policyIn s) (startOf a)) inside area cleared (ap (λ (x : Walk). x .met) (sym found) ∙ ne-eqb _ _ m) in
           rw (ap (λ (x : Walk). x .count) found) all;
-      met = λ m. rw found (search-met (policyIn s) _ s (questionOf a) t (r .held) (r .tabled) (abstract (policyIn s) (startOf a)) inside area clear (ap (λ (x : Walk). x .met) (sym found) ∙ eq-eqb _ _ m));
+      met = λ m. rw found (search-met (policyIn s) _ s (questionOf a) t (r .held) (r .tabled) (abstract (policyIn s) (startOf a)) inside area cleared (ap (λ (x : Walk). x .met) (sym found) ∙ eq-eqb _ _ m));
     }

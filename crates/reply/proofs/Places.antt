@@ -16,16 +16,16 @@ use Rattle.gran.specs.declared.State.{State}
 use Rattle.runs.proofs.Trails.{last-append}
 use Rattle.runs.specs.Search.{Queued, stateAt, parentAt, actAt}
 use Rattle.numbered.specs.Number.{stateNumber}
-use Rattle.walk.specs.Walk.{Walk, mark, labelled, trail, Written}
+use Rattle.walk.specs.Walk.{Walk, queued, mark, labelled, trail, Written}
 use Rattle.walk.specs.Found.{Linking, Chain, actsAlong, Met}
 use Rattle.reply.specs.Run.{actOf, stateAfter, Marked, Traced}
 
 trail-few : (area : List ℕ) (fuel k : ℕ) → length (trail area fuel k) ≤ fuel
 unfolding trail
 trail-few area zero k = omega arith
-trail-few area (suc fuel) k = go (eqb k 0) (trail-few area fuel (mark area (getD area k 0) - 1))
+trail-few area (suc fuel) k = go (eqb k 0) (trail-few area fuel (mark area (queued area k) - 1))
   where
-    go : (b : Bool) → length (trail area fuel (mark area (getD area k 0) - 1)) ≤ fuel → length (cond b [] (k ∷ trail area fuel (mark area (getD area k 0) - 1))) ≤ suc fuel
+    go : (b : Bool) → length (trail area fuel (mark area (queued area k) - 1)) ≤ fuel → length (cond b [] (k ∷ trail area fuel (mark area (queued area k) - 1))) ≤ suc fuel
     go true h = omega arith
     go false h = omega arith
 
@@ -46,11 +46,13 @@ module _ {P : Policy} {q : Question} {α : State} {w : Walk} (m : Met P q α w) 
   marked-last j pos h =
       let l : Linking P (m .found) j = m .linked .steps j pos h in
       let up : j ≤ w .count - 1 = omega (arith, m .recorded .count) in
-      let state : getD (w .area) j 0 ≡ stateNumber P (stateAt (m .found) j) = m .recorded .states j h in
+      let state : queued (w .area) j ≡ stateNumber P (stateAt (m .found) j) = m .recorded .states j h in
       record {
-        place = omega (arith, m .rooted .within);
+        place = omega (arith, m .rooted .within, m .rooted .few);
+        within = omega (arith, m .rooted .within, m .rooted .long);
         may = l .may;
-        small = m .rooted .small j up;
+        small = omega (arith, m .rooted .small j up, m .rooted .few);
+        room = omega (arith, m .rooted .small j up, m .rooted .long);
         state = state ∙ ap (stateNumber P) (sym (l .leads));
         label = ap (labelled (w .area)) state ∙ m .recorded .labels j pos h;
       }
@@ -86,7 +88,6 @@ module _ {P : Policy} {q : Question} {α : State} {w : Walk} (m : Met P q α w) 
         size = x .size ∙ sym (along-length (m .found) ks);
         few = omega (arith, x .size, trail-few (w .area) 8192 (w .count - 1));
         within = omega (arith, x .size, long);
-        long = m .rooted .long;
         marked = λ k i h.
             let inside : suc (k + i) ≡ length ks = omega (arith, x .size) in
             let at : getD out i 0 ≡ getD ks i 0 = rw (x .kept) (List·getD-append ks (drop n was) 0 i (omega arith)) in

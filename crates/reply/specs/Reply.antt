@@ -2,15 +2,15 @@
 -- Assumes nothing.
 use mathlib.Core.Path.{_≡_}
 use mathlib.Core.List.{List}
-use Prim.Native.Nat.{ℕ}
-use lib.ListN.{drop}
+use Prim.Native.Nat.{ℕ, _*_, _≤_}
+use lib.ListN.{length, drop}
 use Rattle.lines.specs.Line.{zeros}
 use Rattle.gran.specs.Policy.{Policy}
 use Rattle.gran.specs.Reach.{Question}
 use Rattle.store.specs.Held.{Loaded}
 use Rattle.fields.specs.Fields.{policyIn}
 use Rattle.tables.specs.Tables.{Tabled}
-use Rattle.numbered.specs.Number.{sizesOf}
+use Rattle.numbered.specs.Number.{allStates, sizesOf}
 use Rattle.numbered.specs.declared.Sizes.{Sizes}
 use Rattle.ask.specs.Ask.{Asked, Lines, roomWith, answerWith}
 use Rattle.ask.specs.declared.Answer.{Answer}
@@ -36,7 +36,12 @@ pub record Answers (P : Policy) (a : Asked) (was : List ℕ) (r : Answer) (is : 
   pub right : Lines P a lines
   pub told : Told lines was r is
 
--- The same, with the work area left zero.
-pub record Responded (P : Policy) (a : Asked) (was : List ℕ) (r : Answer) (is area : List ℕ) : Type 0 where
+-- A work area of zeros, with room for the policy's states.
+pub record Blank (P : Policy) (area : List ℕ) : Type 0 where
+  pub zero : area ≡ zeros (length area)
+  pub long : 3 * allStates (sizesOf P) ≤ length area
+
+-- The same answer, with a work area of so many numbers left zero.
+pub record Responded (P : Policy) (a : Asked) (was : List ℕ) (r : Answer) (is : List ℕ) (size : ℕ) (area : List ℕ) : Type 0 where
   pub answers : Answers P a was r is
-  pub cleared : area ≡ zeros 24576
+  pub cleared : area ≡ zeros size

@@ -3,7 +3,7 @@
 use mathlib.Core.Path.{_≡_}
 use mathlib.Core.Bool.{So}
 use mathlib.Core.List.{List, _++_}
-use Prim.Native.Nat.{ℕ, suc, _+_, _≤_, _<_}
+use Prim.Native.Nat.{ℕ, suc, _+_, _*_, _≤_, _<_}
 use lib.ListN.{length, getD, take}
 use Rattle.gran.specs.Lists.{none}
 use Rattle.gran.specs.Policy.{Policy}
@@ -21,7 +21,7 @@ use Rattle.numbered.specs.Candidates.{labelOf}
 use Rattle.numbered.specs.declared.Sizes.{Sizes}
 use Rattle.records.specs.Record.{recordsOf, stepLines}
 use Rattle.records.proofs.Putting.{Putting}
-use Rattle.walk.specs.Walk.{labelled}
+use Rattle.walk.specs.Walk.{queued, labelled}
 use Rattle.walk.specs.Needed.{walkOf}
 use Rattle.walk.specs.Found.{Met}
 use Rattle.walk.specs.declared.Progress.{Progress}
@@ -45,17 +45,18 @@ stateAfter α acts k = last α (take k acts)
 -- Place p of the queue holds the state that the act a leads to from α, and the label of a.
 pub record Marked (P : Policy) (area : List ℕ) (α : State) (a : Act) (p : ℕ) : Type 0 where
   pub place : p < 8192
+  pub within : 3 * p < length area
   pub may : So (may P α a)
-  pub small : getD area p 0 < 8192
-  pub state : getD area p 0 ≡ stateNumber P (next α a)
-  pub label : labelled area (getD area p 0) ≡ labelOf P α a
+  pub small : queued area p < 8192
+  pub room : 3 * queued area p + 2 < length area
+  pub state : queued area p ≡ stateNumber P (next α a)
+  pub label : labelled area (queued area p) ≡ labelOf P α a
 
 -- The first n places of `out` are those of a run from α, the last step's first.
 pub record Traced (P : Policy) (α : State) (acts : List Act) (area out : List ℕ) (n : ℕ) : Type 0 where
   pub size : n ≡ length acts
   pub few : n ≤ 8192
   pub within : n ≤ length out
-  pub long : length area ≡ 24576
   pub marked : (k i : ℕ) → suc (k + i) ≡ n → Marked P area (stateAfter α acts k) (actOf acts k) (getD out i 0)
 
 -- A run that lies in the work area, of some good policy.

@@ -9,10 +9,11 @@ use numbered::Sizes;
 use walk::Progress;
 ghost use mathlib.Core.Path.{_≡_};
 ghost use Prim.Native.Nat.{_≤_};
-ghost use Rattle.lines.specs.Line.{zeros};
+ghost use lib.ListN.{length};
 ghost use Rattle.fields.specs.Fields.{policyIn};
+ghost use Rattle.numbered.specs.Number.{allStates, sizesOf};
 ghost use Rattle.records.specs.Record.{summary};
-ghost use Rattle.reply.specs.Reply.{Held, Told, Answers, Responded};
+ghost use Rattle.reply.specs.Reply.{Held, Told, Answers, Blank, Responded};
 ghost use Rattle.reply.specs.Run.{Ended};
 
 // The length of an answer's first line.
@@ -25,13 +26,20 @@ pub struct Writing {
     pub process: Process,
 }
 
-// Room for the tables, and for the places of a run.
+// Room for the tables.
 fn no_tables() -> [u8; 8192] {
     [0; 8192]
 }
 
+// Room for the places of a run, and of one among few states: most runs are, and a small room is soon made.
+const FEW: usize = 1024;
+
 fn no_places() -> [u16; 8192] {
     [0; 8192]
+}
+
+fn few_places() -> [u16; 1024] {
+    [0; 1024]
 }
 
 // The answer where the access is never had: all states that are reached.
@@ -46,7 +54,37 @@ fn never(room: &mut [u8], opened: usize) -> Answer
     Answer::Answered(size)
 }
 
-// The answer with the run to the last state found: the states opened before it, and its steps.
+// The answer with the run to the last state found: the states opened before it, and its steps, whose places go to `out`.
+fn reached_by(
+    area: &[u16],
+    store: &[u8],
+    t: &[u8],
+    z: Sizes,
+    w: Progress,
+    start: Process,
+    out: &mut [u16],
+    room: &mut [u8],
+) -> Answer
+    requires { ⌜ Ended (now store) (now t) (now area) z w start × (w .met ≡ 1) × (w .count ≤ length (now out)) ⌝ }
+    ensures { λ r. ⌜ ((g : Ended (now (store .entry)) (now (t .entry)) (now (area .entry)) z w start) → Answers (policyIn (now (store .entry))) (g .asked) (now (room .entry)) r (now (room .exit))) ⌝ }
+{
+    let opened = w.count - 1;
+    let n = walk::trace(area, opened, out);
+    let size = SUMMARY + run::run_length(area, out, n);
+    if room.len() < size {
+        return Answer::Short(size);
+    }
+    let at = records::put_summary(room, 1, opened as u16, n as u16);
+    let first = Writing {
+        at,
+        from: area[0] as usize,
+        process: start,
+    };
+    run::write_run(area, store, t, z, out, n, room, first);
+    Answer::Answered(size)
+}
+
+// The same, with a room of its own for the places.
 fn reached(
     area: &[u16],
     store: &[u8],
@@ -59,21 +97,12 @@ fn reached(
     requires { ⌜ Ended (now store) (now t) (now area) z w start × (w .met ≡ 1) ⌝ }
     ensures { λ r. ⌜ ((g : Ended (now (store .entry)) (now (t .entry)) (now (area .entry)) z w start) → Answers (policyIn (now (store .entry))) (g .asked) (now (room .entry)) r (now (room .exit))) ⌝ }
 {
-    let opened = w.count - 1;
-    let mut out = no_places();
-    let n = walk::trace(area, opened, &mut out);
-    let size = SUMMARY + run::run_length(area, &out, n);
-    if room.len() < size {
-        return Answer::Short(size);
+    if w.count <= FEW {
+        let mut few = few_places();
+        return reached_by(area, store, t, z, w, start, &mut few, room);
     }
-    let at = records::put_summary(room, 1, opened as u16, n as u16);
-    let first = Writing {
-        at,
-        from: area[0] as usize,
-        process: start,
-    };
-    run::write_run(area, store, t, z, &out, n, room, first);
-    Answer::Answered(size)
+    let mut out = no_places();
+    reached_by(area, store, t, z, w, start, &mut out, room)
 }
 
 // The answer after a search.
@@ -96,7 +125,16 @@ fn told(
     never(room, w.count)
 }
 
-// Answers a question about the policy in the store, on a work area of 24,576 numbers that are zero, and leaves them zero.
+// How many states the policy in the store has.
+pub fn states(store: &[u8]) -> usize
+    requires { ⌜ Held (now store) ⌝ }
+    ensures { λ r. ⌜ r ≡ allStates (sizesOf (policyIn (now (store .entry)))) ⌝ }
+{
+    let z = start::sizes(store);
+    walk::state::all_states(z)
+}
+
+// Answers a question about the policy in the store, on a work area of zeros, three at least for each of its states, and leaves them zero.
 pub fn respond(
     store: &[u8],
     area: &mut [u16],
@@ -108,8 +146,8 @@ pub fn respond(
     kind: u8,
 ) -> Answer
     requires { ⌜ Held (now store) ⌝ }
-    requires { ⌜ now area ≡ zeros 24576 ⌝ }
-    ensures { λ r. ⌜ Responded (policyIn (now (store .entry))) (record { uid = uid; gid = gid; start = now (start .entry); target = now (target .entry); kind = kind }) (now (room .entry)) r (now (room .exit)) (now (area .exit)) ⌝ }
+    requires { ⌜ Blank (policyIn (now store)) (now area) ⌝ }
+    ensures { λ r. ⌜ Responded (policyIn (now (store .entry))) (record { uid = uid; gid = gid; start = now (start .entry); target = now (target .entry); kind = kind }) (now (room .entry)) r (now (room .exit)) (length (now (area .entry))) (now (area .exit)) ⌝ }
 {
     let mut t = no_tables();
     tables::fill(store, target, kind, &mut t);

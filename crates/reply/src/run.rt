@@ -1,7 +1,8 @@
 // A run that a search found: the length of its lines, and the lines, from the first step on.
 use crate::Writing;
 use numbered::Sizes;
-use walk::LABELS;
+use walk::EACH;
+use walk::LABEL;
 ghost use mathlib.Core.Path.{_≡_};
 ghost use mathlib.Core.List.{_++_};
 ghost use Prim.Native.Nat.{_+_, _<_};
@@ -18,8 +19,8 @@ fn step_length(area: &[u16], out: &[u16], n: usize, k: usize) -> usize
     ensures { λ r. ⌜ ((g : Lying (now (area .entry)) (now (out .entry)) n) (σ : real.State) → r ≡ length (lineOf (stepBytes (recordOf (g .policy) σ (actOf (g .acts) k))))) ⌝ }
 {
     let place = out[n - 1 - k] as usize;
-    let to = area[place] as usize;
-    shown::label_length(area[LABELS + to])
+    let to = area[EACH * place] as usize;
+    shown::label_length(area[EACH * to + LABEL])
 }
 
 // The length of all lines of its steps.
@@ -51,8 +52,8 @@ fn write_step(
     ensures { λ r. ⌜ ((g : Writable (now (store .entry)) (now (t .entry)) (now (area .entry)) (now (out .entry)) n z) → Wrote g k w (now (room .entry)) → Wrote g (k + 1) r (now (room .exit))) ⌝ }
 {
     let place = out[n - k - 1] as usize;
-    let to = area[place] as usize;
-    let label = area[LABELS + to];
+    let to = area[EACH * place] as usize;
+    let label = area[EACH * to + LABEL];
     let process = w.process;
     let step = shown::step_shown(store, t, z, w.from, label, to, process);
     let at = records::put_step(room, w.at, step);

@@ -31,15 +31,13 @@ pub fn start_number(store: &[u8], t: &[u8], z: Sizes, uid: u32, gid: u32, start:
 {
     let users = cell::USER + z.users;
     let groups = cell::GROUP + z.groups;
+    let subjects = cell::SUBJECT + z.subjects;
     let user = place_in(&t[cell::USER..users], ids::role_of(store, ids::USER, uid)) as usize;
     let group = place_in(
         &t[cell::GROUP..groups],
         ids::role_of(store, ids::GROUP, gid),
     ) as usize;
-    let g = lookup::grades_for(store, start);
-    let of = g.of;
-    let path = lookup::subject_of(store, &of);
-    let subject = fields::byte(t, cell::STAND + path as usize) as usize;
+    let subject = lookup::closest_in(store, start, &t[cell::SUBJECT..subjects]) as usize;
     let d = Digits {
         special: 0,
         user,

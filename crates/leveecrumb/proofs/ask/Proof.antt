@@ -2,10 +2,13 @@
 -- Assumes nothing.
 use mathlib.Core.Path.{sym, ap, _∙_}
 use Prim.Native.Nat.{_≤_}
+use native.Mathlib.Omega.{arith}
 use lib.ListN.{length}
 use lib.Seq.{length-take-le}
 use borrow.Author.Needs.{needs}
 use Rattle.lines.specs.Line.{zeros}
+use Rattle.lines.proofs.Rooms.{length-zeros}
+use Rattle.reply.proofs.Loads.{held-few, blank-of}
 use Rattle.ask.specs.Ask.{Asked, Areas}
 use Rattle.leveecrumb.proofs.Outcomes.{comes-refused, long-enough, holds-after, comes-answered}
 use Rattle.leveecrumb.proofs.ask.Statement.{statement}
@@ -48,10 +51,10 @@ clear-requires c κs = search needs
 respond-requires : tie.Need-respond-requires
 respond-requires c κs =
     let e = c .before .before .before .before .before .before .before in
-    let s = begun e in (
-      holds-after 24576 (length (lent s .work)) (s .args .text .now) (asked s) (lent s) _ _ _ (e .before .before .before .loaded .ensures) (e .if1 .left),
-      c .before .before .before .before .clear .ensures ∙ ap zeros (length-take-le 24576 (lent s .work) (long e)),
-    )
+    let s = begun e in
+    let held = holds-after 24576 (length (lent s .work)) (s .args .text .now) (asked s) (lent s) _ _ _ (e .before .before .before .loaded .ensures) (e .if1 .left) in
+    let zero = c .before .before .before .before .clear .ensures ∙ ap zeros (length-take-le 24576 (lent s .work) (long e)) in
+    (held, blank-of _ 24576 zero (omega (arith, held-few held)))
 
 same-length-2 : tie.Need-same-length-2
 same-length-2 c = search needs
@@ -67,7 +70,9 @@ returns-2 c =
     let e = c .before .before .before .before .before .before .before .before .before .before .before .before in
     let s = begun e in
     let d = c .before .before .before .before .respond .ensures in
-    comes-answered 24576 (length (lent s .work)) (s .args .text .now) (asked s) (lent s) _ _ _ (e .before .before .before .loaded .ensures) (e .if1 .left) _ _ _ _ (d .cleared) d
+    let cleared = c .before .before .before .before .before .before .before .before .before .clear in
+    let same = ap length (cleared .ensures) ∙ length-zeros _ ∙ length-take-le 24576 (lent s .work) (long e) in
+    comes-answered 24576 (length (lent s .work)) (s .args .text .now) (asked s) (lent s) _ _ _ (e .before .before .before .loaded .ensures) (e .if1 .left) _ _ _ (d .cleared ∙ ap zeros same) (d .answers)
 
 pub ask-spec : {M : Type 1} → statement M
 ask-spec =

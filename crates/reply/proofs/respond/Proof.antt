@@ -1,5 +1,8 @@
 -- `respond` meets its contract: the tables, the search, the answer, and a clean work area.
 -- Assumes nothing.
+use mathlib.Core.Path.{_≡_, ap, _∙_}
+use lib.ListN.{length}
+use Rattle.lines.specs.Line.{zeros}
 use Rattle.ask.specs.Ask.{Asked, questionOf}
 use Rattle.reply.proofs.Digits.{ready-sized}
 use Rattle.reply.proofs.Ends.{ready-of, clear-of, start-state, rest, ended-of}
@@ -39,7 +42,7 @@ search-requires c κs =
     let s = c .before .before .before .before .before .before .before .before .before .before .before .before .before .before in
     let a = asked s in
     let r = ready-of a (s .pre .0) (c .before .before .before .before .before .before .fill .ensures _ _ (s .pre .0)) (c .before .before .before .before .sizes .ensures) in
-    (clear-of (s .pre .1), (ready-sized r, start-state a r _ (c .before .before .start-number .ensures)))
+    (clear-of (s .pre .1) (r .sizes), (ready-sized r, start-state a r _ (c .before .before .start-number .ensures)))
 
 slice-aggregate-told : tie.Need-slice-aggregate-told
 slice-aggregate-told c = search needs
@@ -53,7 +56,7 @@ told-requires c κs =
     let s = d .before .before .before .before .before .before .before .before .before .before .before .before .before .before .before in
     let a = asked s in
     let r = ready-of a (s .pre .0) (d .before .before .before .before .before .before .before .fill .ensures _ _ (s .pre .0)) (d .before .before .before .before .before .sizes .ensures) in
-    ended-of a r _ (d .before .before .before .start-number .ensures) (clear-of (s .pre .1)) (d .search .result) (d .search .ensures) _ (c .before .start .ensures)
+    ended-of a r _ (d .before .before .before .start-number .ensures) (clear-of (s .pre .1) (r .sizes)) (d .search .result) (d .search .ensures) _ (c .before .start .ensures)
 
 wipe-requires : tie.Need-wipe-requires
 wipe-requires c κs =
@@ -61,7 +64,7 @@ wipe-requires c κs =
     let s = d .before .before .before .before .before .before .before .before .before .before .before .before .before .before .before in
     let a = asked s in
     let r = ready-of a (s .pre .0) (d .before .before .before .before .before .before .before .fill .ensures _ _ (s .pre .0)) (d .before .before .before .before .before .sizes .ensures) in
-    (ready-sized r, rest a r _ (d .before .before .before .start-number .ensures) (clear-of (s .pre .1)) (d .search .result) (d .search .ensures) (s .pre .1))
+    (ready-sized r, rest a r _ (d .before .before .before .start-number .ensures) (clear-of (s .pre .1) (r .sizes)) (d .search .result) (d .search .ensures) (s .pre .1 .zero))
 
 same-length : tie.Need-same-length
 same-length c = search needs
@@ -76,10 +79,11 @@ returns c =
     let s = d .before .before .before .before .before .before .before .before .before .before .before .before .before .before .before in
     let a = asked s in
     let r = ready-of a (s .pre .0) (d .before .before .before .before .before .before .before .fill .ensures _ _ (s .pre .0)) (d .before .before .before .before .before .sizes .ensures) in
-    let ended = ended-of a r _ (d .before .before .before .start-number .ensures) (clear-of (s .pre .1)) (d .search .result) (d .search .ensures) _ (c .before .before .before .before .before .before .before .before .start .ensures) in
+    let same : length (d .search .last .0) ≡ length (s .args .area .now) = c .before .before .before .before .before .before .before .before .before .before .before .before .area .given in
+    let ended = ended-of a r _ (d .before .before .before .start-number .ensures) (clear-of (s .pre .1) (r .sizes)) (d .search .result) (d .search .ensures) _ (c .before .before .before .before .before .before .before .before .start .ensures) in
     record {
       answers = c .before .before .before .before .before .before .told .ensures ended;
-      cleared = c .before .before .wipe .ensures;
+      cleared = c .before .before .wipe .ensures ∙ ap zeros same;
     }
 
 pub respond-spec : {M : Type 1} → statement M

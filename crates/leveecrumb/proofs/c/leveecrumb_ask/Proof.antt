@@ -1,4 +1,4 @@
--- `leveecrumb_ask` meets its contract: the load and the answer, over numbers of its own, and the lent bytes cleared.
+-- `leveecrumb_ask` meets its contract: the load and the answer, and the lent bytes cleared.
 -- Assumes nothing.
 use mathlib.Core.Path.{sym, ap, _∙_}
 use Prim.Native.Nat.{_/_, _≤_}
@@ -43,23 +43,17 @@ returns c =
     let s = c .before .before .before .before .before .before .before .before .before .before .before .before in
     (_, c .code .ensures, comes-refused 49152 (length (lent s .work) / 2) (s .args .text .now) (asked s) (lent s) _ _ _ (c .before .before .before .before .loaded .ensures) (c .before .if1 .taken))
 
-fresh-requires : tie.Need-fresh-requires
-fresh-requires c κs = search needs
-
-slice-aggregate-respond : tie.Need-slice-aggregate-respond
-slice-aggregate-respond c = search needs
-
-respond-requires : tie.Need-respond-requires
-respond-requires c κs =
-    let e = c .before .before .before .before in
+answer-requires : tie.Need-answer-requires
+answer-requires c κs =
+    let e = c .before .before in
     let s = begun e in
-    (holds-after 49152 (length (lent s .work) / 2) (s .args .text .now) (asked s) (lent s) _ _ _ (e .before .before .before .loaded .ensures) (e .if1 .left), c .before .before .before .fresh .ensures)
+    holds-after 49152 (length (lent s .work) / 2) (s .args .text .now) (asked s) (lent s) _ _ _ (e .before .before .before .loaded .ensures) (e .if1 .left)
 
 slice-relend-prefix-clear : tie.Need-slice-relend-prefix-clear
-slice-relend-prefix-clear c = long (c .before .before .before .before .before .before .before .before)
+slice-relend-prefix-clear c = long (c .before .before .before .before .before)
 
 slice-aggregate-clear : tie.Need-slice-aggregate-clear
-slice-aggregate-clear c = sym (length-take-le 49152 (lent (begun (c .before .before .before .before .before .before .before .before .before)) .work) (long (c .before .before .before .before .before .before .before .before .before)))
+slice-aggregate-clear c = sym (length-take-le 49152 (lent (begun (c .before .before .before .before .before .before)) .work) (long (c .before .before .before .before .before .before)))
 
 clear-requires : tie.Need-clear-requires
 clear-requires c κs = search needs
@@ -78,10 +72,10 @@ same-length-4 c = search needs
 
 returns-2 : tie.Need-returns-2
 returns-2 c =
-    let e = c .before .before .before .before .before .before .before .before .before .before .before .before .before in
+    let e = c .before .before .before .before .before .before .before .before .before .before in
     let s = begun e in
     let zero = c .before .before .before .clear .ensures ∙ ap zeros (length-take-le 49152 (lent s .work) (long e)) in
-    (_, c .code2 .ensures, comes-answered 49152 (length (lent s .work) / 2) (s .args .text .now) (asked s) (lent s) _ _ _ (e .before .before .before .loaded .ensures) (e .if1 .left) _ _ _ _ zero (c .before .before .before .before .before .before .before .before .respond .ensures))
+    (_, c .code2 .ensures, comes-answered 49152 (length (lent s .work) / 2) (s .args .text .now) (asked s) (lent s) _ _ _ (e .before .before .before .loaded .ensures) (e .if1 .left) _ _ _ zero (c .before .before .before .before .before .before .before .answer .ensures))
 
 pub leveecrumb-ask-spec : {M : Type 1} → statement M
 leveecrumb-ask-spec =
@@ -91,9 +85,7 @@ leveecrumb-ask-spec =
     code-requires
     same-length
     returns
-    fresh-requires
-    slice-aggregate-respond
-    respond-requires
+    answer-requires
     slice-relend-prefix-clear
     slice-aggregate-clear
     clear-requires

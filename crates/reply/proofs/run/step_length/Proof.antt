@@ -31,20 +31,26 @@ cast-place c = omega (arith, here (c .before .before .before) .place)
 mul-to : tie.Need-mul-to
 mul-to c = omega (arith, here (c .before .before .before) .place)
 
+mul-to-2 : tie.Need-mul-to-2
+mul-to-2 c = omega (arith, here (c .before .before .before) .place)
+
 shared-slice-read-to : tie.Need-shared-slice-read-to
-shared-slice-read-to c = omega (arith, here (c .before .before .before .before) .place, c .before .before .before .before .pre .0 .traced .long)
+shared-slice-read-to c = omega (arith, here (c .before .before .before .before) .within)
 
 cast-to : tie.Need-cast-to
 cast-to c = omega (arith, here (c .before .before .before .before) .small)
 
-add-label-length : tie.Need-add-label-length
-add-label-length c = omega (arith, here (c .before .before .before .before) .small)
-
 mul-label-length : tie.Need-mul-label-length
 mul-label-length c = omega (arith, here (c .before .before .before .before) .small)
 
+add-label-length : tie.Need-add-label-length
+add-label-length c = omega (arith, here (c .before .before .before .before) .small)
+
+mul-label-length-2 : tie.Need-mul-label-length-2
+mul-label-length-2 c = omega (arith, here (c .before .before .before .before) .small)
+
 shared-slice-read-label-length : tie.Need-shared-slice-read-label-length
-shared-slice-read-label-length c = omega (arith, here (c .before .before .before .before .before) .small, c .before .before .before .before .before .pre .0 .traced .long)
+shared-slice-read-label-length c = omega (arith, here (c .before .before .before .before .before) .room)
 
 label-length-requires : tie.Need-label-length-requires
 label-length-requires c κs = search needs
@@ -65,10 +71,12 @@ step-length-spec =
     shared-slice-read-place
     cast-place
     mul-to
+    mul-to-2
     shared-slice-read-to
     cast-to
-    add-label-length
     mul-label-length
+    add-label-length
+    mul-label-length-2
     shared-slice-read-label-length
     label-length-requires
     returns)

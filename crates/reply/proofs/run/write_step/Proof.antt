@@ -48,20 +48,26 @@ cast-place c = omega (arith, here (c .before .before .before .before .before .be
 mul-to : tie.Need-mul-to
 mul-to c = omega (arith, here (c .before .before .before .before .before .before) .place)
 
+mul-to-2 : tie.Need-mul-to-2
+mul-to-2 c = omega (arith, here (c .before .before .before .before .before .before) .place)
+
 shared-slice-read-to : tie.Need-shared-slice-read-to
-shared-slice-read-to c = omega (arith, here (c .before .before .before .before .before .before .before) .place, c .before .before .before .before .before .before .before .pre .0 .0 .traced .long)
+shared-slice-read-to c = omega (arith, here (c .before .before .before .before .before .before .before) .within)
 
 cast-to : tie.Need-cast-to
 cast-to c = omega (arith, here (c .before .before .before .before .before .before .before) .small)
 
-add-label : tie.Need-add-label
-add-label c = omega (arith, here (c .before .before .before .before .before .before .before) .small)
-
 mul-label : tie.Need-mul-label
 mul-label c = omega (arith, here (c .before .before .before .before .before .before .before) .small)
 
+add-label : tie.Need-add-label
+add-label c = omega (arith, here (c .before .before .before .before .before .before .before) .small)
+
+mul-label-2 : tie.Need-mul-label-2
+mul-label-2 c = omega (arith, here (c .before .before .before .before .before .before .before) .small)
+
 shared-slice-read-label : tie.Need-shared-slice-read-label
-shared-slice-read-label c = omega (arith, here (c .before .before .before .before .before .before .before .before) .small, c .before .before .before .before .before .before .before .before .pre .0 .0 .traced .long)
+shared-slice-read-label c = omega (arith, here (c .before .before .before .before .before .before .before .before) .room)
 
 step-shown-requires : tie.Need-step-shown-requires
 step-shown-requires c κs = search needs
@@ -97,10 +103,12 @@ write-step-spec =
     shared-slice-read-place
     cast-place
     mul-to
+    mul-to-2
     shared-slice-read-to
     cast-to
-    add-label
     mul-label
+    add-label
+    mul-label-2
     shared-slice-read-label
     step-shown-requires
     put-step-requires
