@@ -8,12 +8,10 @@ ghost use Rattle.numbered.specs.Number.{allStates, sizesOf};
 ghost use Rattle.reply.specs.Reply.{Held, Answers};
 ghost use Rattle.ask.specs.Ask.{CodedAs};
 use ask::Answer;
+use reply::FEW;
 
 // The work area's named part in bytes.
 pub const WORK: usize = 49152;
-
-// So many states have a small work area.
-const FEW: usize = 1024;
 
 // A work area of the call's own, for few states, and for as many as there can be.
 fn fresh_few() -> [u16; 3072]

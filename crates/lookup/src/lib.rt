@@ -5,7 +5,7 @@ ghost use mathlib.Core.Bool.{cond};
 ghost use mathlib.Core.List.{List};
 ghost use Prim.Native.Nat.{ℕ, _≤_, _<_};
 ghost use lib.Dec.{eqb};
-ghost use lib.ListN.{length, set};
+ghost use lib.ListN.{length};
 ghost use Rattle.gran.specs.Policy.{Policy};
 ghost use Rattle.gran.specs.Lists.{place};
 ghost use Rattle.gran.specs.Match.{pathAt, pathsOfS, subjectOf};
@@ -15,6 +15,7 @@ ghost use Rattle.lookup.specs.declared.Row.the-variants.{OfRole};
 ghost use Rattle.lookup.specs.Best.{noBest, orElse, bestOf, gradeIn, gradeAt};
 ghost use Rattle.lookup.specs.Index.{objectsNoted, entriesNoted, allNoted, entryIndex, objectIndex, rowOf, isBetter, PathTaken};
 ghost use Rattle.lookup.specs.Lookup.{gradeOf, Graded, InForce, Placed, Rows};
+use rows::put;
 
 // The most paths that a policy has, and the longest good path.
 const PATHS: u8 = 96;
@@ -174,15 +175,6 @@ pub fn object_in(store: &[u8], entry: u8, of: &[u8]) -> u8
     let first = fields::first_object(store, entry);
     let count = fields::object_count(store, entry);
     best_place(store, of, Row::Objects(first), count)
-}
-
-// Writes `v` at `at`, if there is such a place.
-pub fn put(part: &mut [u8], at: usize, v: u8)
-    ensures { λ _. ⌜ now (part .exit) ≡ set (now (part .entry)) at v ⌝ }
-{
-    if at < part.len() {
-        part[at] = v;
-    }
 }
 
 // Notes all entries: for each path a row of 32 cells has for each role the number of the entry that has the path as its subject.

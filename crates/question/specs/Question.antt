@@ -7,7 +7,7 @@ use Prim.Native.Nat.{ℕ, zero, suc, _+_}
 use lib.Dec.{eqb, leb}
 use lib.ListN.{length, take, drop}
 use Rattle.lines.specs.declared.Frame.{Frame}
-use Rattle.lines.specs.Line.{lineLength, decoded, lineOf}
+use Rattle.lines.specs.Line.{lineLength, firstLine, decoded, lineOf}
 use Rattle.store.specs.Layout.{two}
 use Rattle.policy.specs.Frames.{byteAt, number4, typeOf, pathFrom}
 use Rattle.policy.specs.Load.{Reading, refused, accepted, reading}
@@ -17,7 +17,7 @@ use Rattle.ask.specs.Ask.{Asked, early, Lines, roomWith}
 
 -- The frame of a text's first line; one of no bytes where the line is missing or of wrong form.
 abbrev pub first : List ℕ → Frame
-first text = decoded (take (lineLength text) text)
+first text = decoded (firstLine text)
 
 -- What follows a text's first line.
 abbrev pub behind : List ℕ → List ℕ

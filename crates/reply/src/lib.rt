@@ -31,9 +31,10 @@ fn no_tables() -> [u8; 8192] {
     [0; 8192]
 }
 
-// Room for the places of a run, and of one among few states: most runs are, and a small room is soon made.
-const FEW: usize = 1024;
+// So many states are few. Most policies have no more, and small areas are soon made.
+pub const FEW: usize = 1024;
 
+// Room for the places of a run, and of one among few states.
 fn no_places() -> [u16; 8192] {
     [0; 8192]
 }

@@ -1,8 +1,8 @@
-// Tables in lent bytes: rows of one width, found by how they begin, written behind one another, cleared. Rests on `lines`.
+// Tables in lent bytes: rows of one width, found by how they begin, written behind one another, cleared; single bytes. Rests on `lines`.
 // What a reader must believe stands in specs/Rows.antt.
 ghost use mathlib.Core.Path.{_≡_};
 ghost use Prim.Native.Nat.{_+_, _*_, _≤_, _<_};
-ghost use lib.ListN.{length};
+ghost use lib.ListN.{length, set};
 ghost use lib.Seq.{paste};
 ghost use Rattle.lines.specs.Line.{zeros};
 ghost use Rattle.rows.specs.Rows.{rowsOf, beginsWith, hasRow};
@@ -71,6 +71,15 @@ pub fn put_row(table: &mut [u8], at: usize, row: &[u8])
     while i < row.len() {
         table[at + i] = row[i];
         i += 1;
+    }
+}
+
+// Writes `v` at `at`, if there is such a place.
+pub fn put(part: &mut [u8], at: usize, v: u8)
+    ensures { λ _. ⌜ now (part .exit) ≡ set (now (part .entry)) at v ⌝ }
+{
+    if at < part.len() {
+        part[at] = v;
     }
 }
 

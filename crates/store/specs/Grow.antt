@@ -23,10 +23,11 @@ withEntries P es = record { roles = P .roles; paths = P .paths; moves = P .moves
 abbrev pub withEntry : Policy → Entry → Policy
 withEntry P e = withEntries P (P .entries ++ (e ∷ []))
 
--- An entry as its frame gives it, with no object and no id yet.
+-- A mode with no id listed yet.
 abbrev pub unlisted : ℕ → Allowed
 unlisted mode = record { mode = mode; ids = [] }
 
+-- An entry as its frame gives it, with no object and no id yet.
 abbrev pub newEntry : ℕ → ℕ → ℕ → ℕ → ℕ → Entry
 newEntry subject role caps users groups = record { role = role; subject = subject; caps = caps; users = unlisted users; groups = unlisted groups; objects = [] }
 

@@ -22,7 +22,7 @@ ghost use Rattle.tables.specs.Tables.{cell, Tabled};
 ghost use Rattle.tables.specs.Regions.{flagOf, Front, Region, Stands, Grants, Named, Choice, Counted, Offers, offers, rowsFor, Lists, Tests, RowFilled, RowsFilled};
 use ids::GROUP;
 use ids::USER;
-use lookup::put;
+use rows::put;
 
 pub mod cell; // cell.rt: where cells stand, for those who read the tables
 

@@ -3,8 +3,8 @@
 use mathlib.Core.Path.{sym}
 use borrow.Author.Needs.{needs}
 use lib.Seq.{set-out}
-use Rattle.lookup.proofs.put.Statement.{statement}
-use Rattle.lookup.proofs.put.Tie as tie
+use Rattle.rows.proofs.put.Statement.{statement}
+use Rattle.rows.proofs.put.Tie as tie
 
 slice-write-part : tie.Need-slice-write-part
 slice-write-part c = search needs
