@@ -3,10 +3,11 @@
  *
  *   daemon POLICY UID GID START TARGET
  *
- * POLICY is a file with the policy's lines, without question lines. If it is reached, the steps of the answer are replayed. Exit code: 0 never,
- * 1 reached, 2 refused, 3 no check: it could not be asked, or its steps do not hold.
+ * POLICY is a file with the policy's lines, without question lines. If it is reached, the steps of the answer are replayed. Exit status, as of
+ * bin/pathcheck: 0 never, 1 reached, 2 refused, 3 no check: it could not be asked, its answer could not be written, or its steps do not hold.
  *
- *   gcc -std=c99 -Iinclude examples/daemon.c target/staticlib/libleveecrumb.a -o daemon
+ *   bin/install /opt/leveecrumb
+ *   PKG_CONFIG_PATH=/opt/leveecrumb/lib/pkgconfig gcc -std=c99 examples/daemon.c $(pkg-config --cflags --libs leveecrumb) -o daemon
  */
 #include <stdio.h>
 #include <stdlib.h>
@@ -255,7 +256,7 @@ int main(int count, char **words)
     size_t size;
     struct question q;
     uint64_t result;
-    int bad = 0;
+    int bad = 0, status;
     if (count != 6)
         return usage();
     q.uid = id(words[2], &bad);
@@ -278,7 +279,11 @@ int main(int count, char **words)
     }
     result = leveecrumb_ask(text, size, store, sizeof store, work, sizeof work, room, sizeof room, q.uid, q.gid,
                             bytes(q.start), strlen(q.start), bytes(q.target), strlen(q.target), LEVEECRUMB_WRITE);
-    if (LEVEECRUMB_NUMBER(result) != LEVEECRUMB_ACCEPTED)
-        return refused(result);
-    return answered(&q, size);
+    status = LEVEECRUMB_NUMBER(result) == LEVEECRUMB_ACCEPTED ? answered(&q, size) : refused(result);
+    /* An answer that nobody can read is none. */
+    if (fflush(stdout) != 0 || ferror(stdout)) {
+        fprintf(stderr, "daemon: the answer cannot be written\n");
+        return NO_CHECK;
+    }
+    return status;
 }

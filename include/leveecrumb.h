@@ -20,6 +20,21 @@
 extern "C" {
 #endif
 
+/* ---- the version ----------------------------------------------------------------------------------------------------------------------- */
+
+/* Its one place: bin/pathcheck --version and the pkg-config file read it here. */
+#define LEVEECRUMB_VERSION_MAJOR 0
+#define LEVEECRUMB_VERSION_MINOR 1
+#define LEVEECRUMB_VERSION_PATCH 0
+
+/* As one number that grows with the version, for #if. */
+#define LEVEECRUMB_VERSION_NUMBER (LEVEECRUMB_VERSION_MAJOR * 1000000 + LEVEECRUMB_VERSION_MINOR * 1000 + LEVEECRUMB_VERSION_PATCH)
+
+/* As text: "0.1.0". */
+#define LEVEECRUMB_VERSION LEVEECRUMB_VERSION_OF(LEVEECRUMB_VERSION_MAJOR, LEVEECRUMB_VERSION_MINOR, LEVEECRUMB_VERSION_PATCH)
+#define LEVEECRUMB_VERSION_OF(major, minor, patch) LEVEECRUMB_VERSION_JOIN(major, minor, patch)
+#define LEVEECRUMB_VERSION_JOIN(major, minor, patch) #major "." #minor "." #patch
+
 /* ---- sizes, in bytes ------------------------------------------------------------------------------------------------------------------- */
 
 #define LEVEECRUMB_TEXT_MOST 32768   /* the longest policy text */
