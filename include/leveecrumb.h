@@ -1,9 +1,10 @@
 /*
  * Leveecrumb for C and C++: can an account ever come to read, or write, a file under a grsecurity RBAC policy?
  *
- * Link with libleveecrumb.a (`rt staticlib leveecrumb`, x86-64 Linux). The library calls memcpy and memset and nothing else: no heap, no file,
- * nothing global that changes. Each call works on the areas that are lent to it, keeps no pointer after it returns, and needs at most about 80 KB of
- * stack. Calls from several threads are fine as long as no store, work area or room is lent to two of them at once.
+ * Link with libleveecrumb.a, for x86-64 Linux: `bin/install PREFIX` puts it, this file and one for pkg-config in their places. The library calls
+ * memcpy and memset and nothing else: no heap, no file, nothing global that changes. Each call works on the areas that are lent to it, keeps no
+ * pointer after it returns, and needs at most about 80 KB of stack. Calls from several threads are fine as long as no store, work area or room is
+ * lent to two of them at once.
  *
  * Three calls: leveecrumb_ask answers the question; leveecrumb_replay checks a row of steps, an answer's or any other; leveecrumb_last_file says
  * where the path of the program stands that runs at their end.
