@@ -4,7 +4,8 @@
 //! model worked out into arrays, `search` goes over them; `ask` and `replay` are the calls, `layout` is what
 //! they leave in a store, `pathcheck` is the program. `plain` and `finite` check the search in two further ways.
 //! `library` has the proved library's calls, over `lent` areas, `process` makes them in another process;
-//! `against` holds them to the calls above. Programs for x86-64 are `started` through bin/run.
+//! `against` holds them to the calls above. `proved` runs the proved program; both are `started` through
+//! bin/run.
 //! `frames`, `load_cases`, `large`, `clock` and, with `random` numbers, `generator` make texts, `samples` whole
 //! inputs of the program.
 
@@ -25,6 +26,7 @@ pub mod pathcheck;
 pub mod plain;
 pub mod policy;
 pub mod process;
+pub mod proved;
 pub mod random;
 pub mod replay;
 pub mod samples;

@@ -1,4 +1,4 @@
-//! The whole listing, the small facts that are run, and the program.
+//! The whole listing, the small facts that are run, and the proved program.
 
 use second::ask::{ask, steps_of, Outcome, STORE_LEAST, TEXT_MOST, WORK_LEAST};
 use second::clock::clock;
@@ -6,9 +6,11 @@ use second::frames::text;
 use second::large::{fullest, many_states};
 use second::load_cases::LISTING;
 use second::pathcheck::{pathcheck, INPUT_MOST};
+use second::proved;
 use second::replay::{replay, Replayed};
-use std::io::Write;
-use std::process::{Command, Stdio};
+use second::started::repository;
+use std::path::Path;
+use std::process::Command;
 
 const QUESTION: &str = "6001000003e800000064\n612f\n622f6574632f6e74702f\n";
 const ANSWER: &str = "800100020002\n8102\n840101000003e800000064\n";
@@ -44,28 +46,28 @@ fn refused(number: u8, value: u32) -> Outcome {
     }
 }
 
-/// Runs the program on an input.
+/// Runs the proved program on an input; the second program must say the same.
 fn run(input: &[u8]) -> String {
-    let mut program = Command::new(env!("CARGO_BIN_EXE_pathcheck"))
-        .stdin(Stdio::piped())
-        .stdout(Stdio::piped())
-        .spawn()
-        .unwrap();
-    // The program may stop reading before the end.
-    let _ = program.stdin.take().unwrap().write_all(input);
-    let output = program.wait_with_output().unwrap();
-    assert!(output.status.success());
-    assert_eq!(output.stdout, pathcheck(input));
-    String::from_utf8(output.stdout).unwrap()
+    let printed = proved::pathcheck(input);
+    assert_eq!(printed, pathcheck(input));
+    String::from_utf8(printed).unwrap()
 }
 
-/// The two files that a program writes.
-fn written(program: &str, names: [&str; 2]) -> [Vec<u8>; 2] {
-    let folder = std::path::Path::new(env!("CARGO_TARGET_TMPDIR"));
-    let files = names.map(|name| folder.join(name));
-    let status = Command::new(program).args(&files).status().unwrap();
-    assert!(status.success());
-    files.map(|file| std::fs::read(file).unwrap())
+/// The two files that a program writes are a crate's stored input, of which its program reads all, and output.
+fn as_stored(program: &str, name: &str) {
+    let written = Path::new(env!("CARGO_TARGET_TMPDIR")).join(name);
+    std::fs::create_dir_all(&written).unwrap();
+    let places = ["stdin", "stdout"].map(|file| written.join(file));
+    assert!(Command::new(program)
+        .args(&places)
+        .status()
+        .unwrap()
+        .success());
+    let stored = repository().join("crates").join(name);
+    let [input, output] = places.map(|place| std::fs::read(place).unwrap());
+    assert!(input.len() <= 131_072);
+    assert!(input == std::fs::read(stored.join("stdin")).unwrap());
+    assert!(output == std::fs::read(stored.join("stdout")).unwrap());
 }
 
 fn run_with(question: &str, policy: &str) -> String {
@@ -187,35 +189,16 @@ fn load_cases_as_worked_out_by_hand() {
     }
 }
 
-/// The files that the row of load cases is written to.
+/// The texts of the proved load, and their refusals.
 #[test]
-fn load_cases_in_files() {
-    let names = ["container", "expected"];
-    let [texts, pairs] = written(env!("CARGO_BIN_EXE_loads"), names);
-    let pairs = String::from_utf8(pairs).unwrap();
-    let mut rest = texts.as_slice();
-    let mut pairs = pairs.lines();
-    for case in second::load_cases::cases() {
-        let (length, next) = rest.split_at(4);
-        let (text, next) = next.split_at(u32::from_be_bytes(length.try_into().unwrap()) as usize);
-        assert_eq!(text, case.text);
-        let (number, line) = case.expected;
-        assert_eq!(pairs.next().unwrap(), format!("{number} {line}"));
-        rest = next;
-    }
-    assert!(rest.is_empty() && pairs.next().is_none());
+fn load_cases_as_stored() {
+    as_stored(env!("CARGO_BIN_EXE_loads"), "load_table");
 }
 
-/// The stored row of inputs and what is printed for them are what the samples give, and Rattle's program reads
-/// all of it.
+/// The inputs of the proved check, and what is printed for them.
 #[test]
 fn samples_as_stored() {
-    let names = ["inputs", "outputs"];
-    let [inputs, outputs] = written(env!("CARGO_BIN_EXE_samples"), names);
-    let stored = std::path::Path::new(env!("CARGO_MANIFEST_DIR")).join("../../crates/sample");
-    assert!(inputs.len() <= 131_072);
-    assert!(inputs == std::fs::read(stored.join("stdin")).unwrap());
-    assert!(outputs == std::fs::read(stored.join("stdout")).unwrap());
+    as_stored(env!("CARGO_BIN_EXE_samples"), "sample");
 }
 
 #[test]
