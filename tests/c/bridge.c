@@ -62,9 +62,11 @@ static void put_byte(uint8_t byte)
 
 static void put_number(uint64_t number)
 {
-    int shift;
-    for (shift = 56; shift >= 0; shift -= 8)
-        put_byte((uint8_t)(number >> shift));
+    uint8_t b[8];
+    int n;
+    for (n = 7; n >= 0; n--, number >>= 8)
+        b[n] = (uint8_t)number;
+    put(b, sizeof b);
 }
 
 /* Reads these areas of a call, each into a buffer of its own. */
