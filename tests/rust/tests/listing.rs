@@ -1,6 +1,7 @@
 //! The whole listing, the small facts that are run, and the proved program.
 
-use second::ask::{ask, steps_of, Outcome, STORE_LEAST, TEXT_MOST, WORK_LEAST};
+use second::ask::{answered as in_room, ask, steps_of, weigh, Outcome, Question};
+use second::ask::{STORE_LEAST, TEXT_MOST, WORK_LEAST};
 use second::clock::clock;
 use second::frames::text;
 use second::large::{fullest, many_states};
@@ -8,6 +9,7 @@ use second::load_cases::LISTING;
 use second::pathcheck::{pathcheck, INPUT_MOST};
 use second::proved;
 use second::replay::{replay, Replayed};
+use second::samples::question;
 use second::started::repository;
 use std::path::Path;
 use std::process::Command;
@@ -137,29 +139,25 @@ fn refusals_1_to_6_in_order() {
         ask(&long[1..], store, work, 0, 0, 0, b"/", b"/", 1),
         refused(7, 1)
     );
+}
+
+#[test]
+fn starts_and_targets() {
+    let asked = |start: &[u8], target: &[u8]| {
+        let (store, work) = (STORE_LEAST, WORK_LEAST);
+        ask(b"", store, work, 0, 0, 0, start, target, 0)
+    };
     for path in [&b"a/"[..], b"/a", b"//", b"/a//b/", b"/\0/", b"/a/b"] {
-        assert_eq!(ask(b"", store, work, 0, 0, 0, path, b"/", 0), refused(4, 0));
-        assert_eq!(ask(b"", store, work, 0, 0, 0, b"/", path, 0), refused(4, 0));
+        assert_eq!(asked(path, b"/"), refused(4, 0));
+        assert_eq!(asked(b"/", path), refused(4, 0));
     }
     for path in [&b"/"[..], b"/*/", b"/?[/", b"/./../", b"/\n\xff/"] {
-        assert_eq!(
-            ask(b"", store, work, 0, 0, 0, path, path, 0),
-            refused(14, 0)
-        );
+        assert_eq!(asked(path, path), refused(14, 0));
     }
     let of = |n: usize| [b"/", &vec![b'a'; n - 2][..], b"/"].concat();
-    assert_eq!(
-        ask(b"", store, work, 0, 0, 0, &of(64), &of(64), 0),
-        refused(14, 0)
-    );
-    assert_eq!(
-        ask(b"", store, work, 0, 0, 0, &of(65), &of(64), 0),
-        refused(4, 0)
-    );
-    assert_eq!(
-        ask(b"", store, work, 0, 0, 0, &of(64), &of(65), 0),
-        refused(4, 0)
-    );
+    assert_eq!(asked(&of(64), &of(64)), refused(14, 0));
+    assert_eq!(asked(&of(65), &of(64)), refused(4, 0));
+    assert_eq!(asked(&of(64), &of(65)), refused(4, 0));
 }
 
 #[test]
@@ -273,50 +271,34 @@ fn the_program_reads_no_more_than_it_needs() {
     assert_eq!(run(all.as_bytes()), "8f010000\n");
 }
 
+/// The clock's question.
+const AT_A: Question = Question {
+    uid: 1,
+    gid: 0,
+    start: b"/a/",
+    target: b"/etc/",
+    kind: 0,
+};
+
 /// A run of 2,407 steps: its answer does not fit the program's room, that of the hour before does.
 #[test]
 fn a_long_run() {
-    let asked = |at: u8, room: usize| {
-        let text = text(&clock(at));
-        ask(
-            &text,
-            STORE_LEAST,
-            WORK_LEAST,
-            room,
-            1,
-            0,
-            b"/a/",
-            b"/etc/",
-            0,
-        )
-    };
     // An hour: 12 users take the special role, run 22 files and leave it; 11 run the first file again; the last
     // sets its UID, and the group runs the first file, but not at the end.
     let hour = 12 * (5 + 22 * 23 + 5) + 11 * 23 + 11 + 23;
+    let lines = question(AT_A.kind, AT_A.uid, AT_A.gid, AT_A.start, AT_A.target);
     for at in 1..=7 {
+        let text = text(&clock(at));
+        let found = weigh(&text, STORE_LEAST, WORK_LEAST, &AT_A).unwrap().found;
         let bytes = 13 + (at as usize + 1) * hour - 23;
-        let outcome = asked(at, bytes);
+        let outcome = in_room(&found, bytes);
         assert_eq!((outcome.number, outcome.value as usize), (0, bytes));
-        assert_eq!(asked(at, bytes - 1), refused(17, bytes as u32));
+        assert_eq!(in_room(&found, bytes - 1), refused(17, bytes as u32));
         let steps = steps_of(&outcome.answer);
         assert_eq!(steps.len(), (at as usize + 1) * 301 - 1);
-        let text = text(&clock(at));
-        let question = second::ask::Question {
-            uid: 1,
-            gid: 0,
-            start: b"/a/",
-            target: b"/etc/",
-            kind: 0,
-        };
-        assert_eq!(
-            replay(&text, STORE_LEAST, &question, &steps),
-            Replayed::Holds(23)
-        );
-        let input = format!(
-            "60000000000100000000\n612f612f\n622f6574632f\n{}",
-            String::from_utf8(text).unwrap()
-        );
-        let printed = run(input.as_bytes());
+        let replayed = replay(&text, STORE_LEAST, &AT_A, &steps);
+        assert_eq!(replayed, Replayed::Holds(23));
+        let printed = run(&[lines.clone(), text].concat());
         match bytes > 49_152 {
             true => assert_eq!(printed, "8f110000\n"),
             false => assert_eq!(printed.as_bytes(), outcome.answer),
