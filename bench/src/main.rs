@@ -9,7 +9,6 @@ mod policies;
 use policies::Case;
 use second::against::WORK_BYTES;
 use second::ask::{ask_lent, Lent, STORE_LEAST};
-use second::door;
 use std::hint::black_box;
 use std::time::Duration;
 

@@ -1,10 +1,9 @@
-//! The library, called through its door, against the second program: numbers, values, answers and every lent
-//! byte.
+//! The library against the second program: numbers, values, answers and every lent byte.
 
 use crate::ask::{answered, weigh, Accepted, Outcome, Question, EXECUTE, STORE_LEAST, WORK_LEAST};
-use crate::door::{self, HOLDS, NOT_GRANTED, NO_STEP};
 use crate::layout::layout;
 use crate::lent::Area;
+use crate::library::{self, Library, Part, HOLDS, NOT_GRANTED, NO_STEP, OF_STORE};
 use crate::policy::{load, Policy, Refusal};
 use crate::replay::{self, Replayed, Step, NONE};
 
@@ -50,13 +49,19 @@ fn front(left: Result<&Policy, &Refusal>) -> Vec<u8> {
 }
 
 /// Asks both: the library's answer and all lent bytes must be the second program's.
-pub fn ask(text: &[u8], question: &Question, lengths: &Lengths) -> Result<Outcome, String> {
+pub fn ask(
+    library: &mut dyn Library,
+    text: &[u8],
+    question: &Question,
+    lengths: &Lengths,
+) -> Result<Outcome, String> {
     let weighed = weigh(text, lengths.store, lengths.work / 2, question);
-    ask_weighed(text, question, lengths, &weighed)
+    ask_weighed(library, text, question, lengths, &weighed)
 }
 
 /// The same, where the second program has weighed the question with these lengths.
 pub fn ask_weighed(
+    library: &mut dyn Library,
     text: &[u8],
     question: &Question,
     lengths: &Lengths,
@@ -69,8 +74,7 @@ pub fn ask_weighed(
     let mut store = Area::new(lengths.store);
     let mut work = Area::new(lengths.work);
     let mut room = Area::new(lengths.room);
-    let (s, w, r, q) = (store.lent(), work.lent(), room.lent(), question);
-    let answer = door::ask(text, s, w, r, q.uid, q.gid, q.start, q.target, q.kind);
+    let answer = library.ask(text, &mut store, &mut work, &mut room, question);
     if (answer.number, answer.value) != (outcome.number.into(), outcome.value) {
         return Err(format!("the library says {answer:?}, not {outcome:?}"));
     }
@@ -82,9 +86,9 @@ pub fn ask_weighed(
     Ok(outcome)
 }
 
-/// What the door's replay returns for what the second program says.
-fn returned(replayed: &Replayed) -> door::Replayed {
-    let none = door::Replayed {
+/// What the library's replay returns for what the second program says.
+fn returned(replayed: &Replayed) -> library::Replayed {
+    let none = library::Replayed {
         number: 0,
         verdict: 0,
         file: NONE,
@@ -92,49 +96,63 @@ fn returned(replayed: &Replayed) -> door::Replayed {
         first: 0,
     };
     match *replayed {
-        Replayed::Refused(refusal) => door::Replayed {
+        Replayed::Refused(refusal) => library::Replayed {
             number: refusal.number,
             line: refusal.line as usize,
             ..none
         },
-        Replayed::Holds(file) => door::Replayed {
+        Replayed::Holds(file) => library::Replayed {
             verdict: HOLDS,
             file,
             ..none
         },
-        Replayed::NoStep(first) => door::Replayed {
+        Replayed::NoStep(first) => library::Replayed {
             verdict: NO_STEP,
             first,
             ..none
         },
-        Replayed::NotGranted => door::Replayed {
+        Replayed::NotGranted => library::Replayed {
             verdict: NOT_GRANTED,
             ..none
         },
     }
 }
 
-/// Lets both find the last file: the library's part must be the second program's, byte for byte in place.
-pub fn last_file<'a>(start: &'a [u8], store: &'a [u8], number: u8) -> Result<&'a [u8], String> {
-    let part = door::last_file(start, store, number);
-    let expected = replay::last_file(start, store, number);
-    same(std::ptr::eq(part, expected), "last file's part")?;
-    Ok(part)
+/// Lets both find the last file for each number: the library's parts must be the second program's.
+pub fn last_files(
+    library: &mut dyn Library,
+    start: &[u8],
+    store: &[u8],
+    numbers: &[u8],
+) -> Result<Vec<Part>, String> {
+    let parts = library.last_files(start, store, numbers);
+    for (number, part) in numbers.iter().zip(&parts) {
+        let expected = replay::last_file(start, store, *number);
+        if *part != expected {
+            let said = format!("the library says {part:?}, not {expected:?}");
+            return Err(format!("{said}, for number {number}"));
+        }
+    }
+    same(parts.len() == numbers.len(), "count of parts")?;
+    Ok(parts)
 }
 
 /// Where a row holds: the last file is that of its last exec, or the start.
 fn last_of_row(
+    library: &mut dyn Library,
     policy: &Policy,
     start: &[u8],
     store: &[u8],
     steps: &[Step],
     file: u8,
 ) -> Result<(), String> {
-    let part = last_file(start, store, file)?;
-    let last = steps.iter().rfind(|step| step.kind == EXECUTE);
-    let good = match last {
-        Some(step) => step.file == file && part == policy.path(file),
-        None => std::ptr::eq(part, start),
+    let part = last_files(library, start, store, &[file])?[0];
+    let good = match steps.iter().rfind(|step| step.kind == EXECUTE) {
+        Some(step) => {
+            let path = part.of(start, store);
+            step.file == file && part.stored == OF_STORE && path == policy.path(file)
+        }
+        None => part == Part::start(start),
     };
     same(good, "last file")
 }
@@ -142,6 +160,7 @@ fn last_of_row(
 /// Lets the library replay a row: its verdict and the store must be the second program's, which is handed back.
 /// Where it holds, the last file must be the row's.
 pub fn replay(
+    library: &mut dyn Library,
     text: &[u8],
     question: &Question,
     store_len: usize,
@@ -149,8 +168,7 @@ pub fn replay(
 ) -> Result<Replayed, String> {
     let expected = replay::replay(text, store_len, question, steps);
     let mut store = Area::new(store_len);
-    let (s, q) = (store.lent(), question);
-    let got = door::replay(text, s, q.uid, q.gid, q.start, q.target, q.kind, steps);
+    let got = library.replay(text, &mut store, question, steps);
     if got != returned(&expected) {
         return Err(format!("the library says {got:?}, not {expected:?}"));
     }
@@ -161,7 +179,8 @@ pub fn replay(
     let kept = front(loaded.as_ref());
     same(store.holds(&kept), "store")?;
     if let (Replayed::Holds(_), Ok(policy)) = (expected, &loaded) {
-        last_of_row(policy, question.start, store.lent(), steps, got.file)?;
+        let (start, store) = (question.start, store.lent());
+        last_of_row(library, policy, start, store, steps, got.file)?;
     }
     Ok(expected)
 }

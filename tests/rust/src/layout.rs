@@ -1,6 +1,8 @@
-//! The store's first 16,384 bytes after an accepted load, as docs/LAYOUT.md describes them; a path read back.
+//! The store's first 16,384 bytes after an accepted load, as docs/LAYOUT.md describes them; a path found
+//! again.
 
 use crate::policy::{Kind, Policy};
+use std::ops::Range;
 
 pub const BYTES: usize = 16_384;
 
@@ -135,15 +137,12 @@ pub fn layout(policy: &Policy) -> Vec<u8> {
     store
 }
 
-/// Path `number` of a store, whatever its bytes are: none where the store does not reach to the end of the path's
-/// place or of the path, or has no such path by its count.
-pub fn path(store: &[u8], number: u8) -> Option<&[u8]> {
+/// Where path `number` of a store stands, whatever its bytes are: nowhere if the store does not reach to the end
+/// of the path's place or of the path, or has no such path by its count.
+pub fn path_at(store: &[u8], number: u8) -> Option<Range<usize>> {
     let place = store.get(PLACES_AT + number as usize * PLACE..)?;
     let (&[high, low, len], _) = place.split_first_chunk()?;
-    if number >= store[2] {
-        return None;
-    }
-    let pool = store.get(POOL_AT..)?;
-    let path = pool.get(u16::from_be_bytes([high, low]) as usize..)?;
-    path.get(..len as usize)
+    let from = POOL_AT + u16::from_be_bytes([high, low]) as usize;
+    let end = from + len as usize;
+    (number < store[2] && end <= store.len()).then_some(from..end)
 }

@@ -13,6 +13,11 @@ static BEFORE: LazyLock<Vec<u8>> = LazyLock::new(|| {
     (0..AREA_MOST + 2 * GUARD).map(byte).collect()
 });
 
+/// What stands before and behind an area that is only read.
+pub fn guard() -> &'static [u8] {
+    &BEFORE[..GUARD]
+}
+
 pub struct Area {
     bytes: Vec<u8>,
     len: usize,
@@ -27,9 +32,26 @@ impl Area {
         }
     }
 
+    /// An area with these bytes.
+    pub fn with(bytes: &[u8]) -> Area {
+        let mut area = Area::new(bytes.len());
+        area.lent().copy_from_slice(bytes);
+        area
+    }
+
     /// The area itself.
     pub fn lent(&mut self) -> &mut [u8] {
         &mut self.bytes[GUARD..GUARD + self.len]
+    }
+
+    /// The area with what is around it.
+    pub fn whole(&self) -> &[u8] {
+        &self.bytes
+    }
+
+    /// Puts the whole there as it came back from another process.
+    pub fn put_back(&mut self, whole: &[u8]) {
+        self.bytes.copy_from_slice(whole);
     }
 
     /// Whether the area has these bytes in front, and every byte beyond them, before and behind the area is as

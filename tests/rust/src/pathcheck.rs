@@ -11,7 +11,8 @@ pub const INPUT_MOST: usize = 3 * (DIGITS_MOST + 1) + TEXT_MOST + 1;
 /// The question lines: type, shortest and longest rest.
 const QUESTION: [(u8, usize, usize); 3] = [(0x60, 9, 9), (0x61, 1, 79), (0x62, 1, 79)];
 
-fn refused(number: u8, line: u32) -> Vec<u8> {
+/// The line of a refusal.
+pub fn refused(number: u8, line: u32) -> Vec<u8> {
     let mut lines = Vec::new();
     write_line(&mut lines, &[&[0x8f, number], &(line as u16).to_be_bytes()]);
     lines

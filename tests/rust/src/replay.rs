@@ -1,7 +1,8 @@
 //! Replay: step records walked against the real steps; the last file's path.
 
 use crate::ask::{Question, EXECUTE, SET_GROUP, SET_USER, STORE_LEAST, TAKE_SPECIAL, TEXT_MOST};
-use crate::layout;
+use crate::layout::path_at;
+use crate::library::{Part, OF_STORE};
 use crate::model::{self, access, object_for, Move, Real};
 use crate::policy::{load, Policy, Refusal};
 
@@ -9,7 +10,7 @@ use crate::policy::{load, Policy, Refusal};
 pub const NONE: u8 = 255;
 
 /// A step record. Fields that a kind does not use are 0. It lies in memory as C lays it, so that a row of them
-/// can be lent through the library's door.
+/// can be lent to the library in one process with it.
 #[repr(C)]
 #[derive(Clone, Copy, Debug, Default, PartialEq, Eq)]
 pub struct Step {
@@ -119,12 +120,16 @@ pub fn replay(text: &[u8], store_len: usize, question: &Question, steps: &[Step]
 }
 
 /// The last file's path by its number: the start, or a part of the store. An empty part is in front of it.
-pub fn last_file<'a>(start: &'a [u8], store: &'a [u8], number: u8) -> &'a [u8] {
+pub fn last_file(start: &[u8], store: &[u8], number: u8) -> Part {
     if number == NONE {
-        return start;
+        return Part::start(start);
     }
-    match layout::path(store, number) {
-        Some(path) if !path.is_empty() => path,
-        _ => &store[..0],
+    match path_at(store, number) {
+        Some(path) if !path.is_empty() => Part {
+            stored: OF_STORE,
+            from: path.start,
+            size: path.len(),
+        },
+        _ => Part::EMPTY,
     }
 }

@@ -123,7 +123,7 @@ fn random_asks(all: &mut Vec<Vec<u8>>) {
             _ => asked.text(),
         };
         if policy.len() <= most {
-            let kind = asked.kind as u8;
+            let kind = asked.kind;
             let lines = question(kind, asked.uid, asked.gid, &asked.start, &asked.target);
             all.push([lines, policy].concat());
             made += 1;

@@ -1,14 +1,18 @@
-//! The whole listing, the small facts that are run, and the program.
+//! The whole listing, the small facts that are run, and the proved program.
 
-use second::ask::{ask, steps_of, Outcome, STORE_LEAST, TEXT_MOST, WORK_LEAST};
+use second::ask::{answered as in_room, ask, steps_of, weigh, Outcome, Question};
+use second::ask::{STORE_LEAST, TEXT_MOST, WORK_LEAST};
 use second::clock::clock;
 use second::frames::text;
 use second::large::{fullest, many_states};
 use second::load_cases::LISTING;
 use second::pathcheck::{pathcheck, INPUT_MOST};
+use second::proved;
 use second::replay::{replay, Replayed};
-use std::io::Write;
-use std::process::{Command, Stdio};
+use second::samples::question;
+use second::started::repository;
+use std::path::Path;
+use std::process::Command;
 
 const QUESTION: &str = "6001000003e800000064\n612f\n622f6574632f6e74702f\n";
 const ANSWER: &str = "800100020002\n8102\n840101000003e800000064\n";
@@ -44,28 +48,28 @@ fn refused(number: u8, value: u32) -> Outcome {
     }
 }
 
-/// Runs the program on an input.
+/// Runs the proved program on an input; the second program must say the same.
 fn run(input: &[u8]) -> String {
-    let mut program = Command::new(env!("CARGO_BIN_EXE_pathcheck"))
-        .stdin(Stdio::piped())
-        .stdout(Stdio::piped())
-        .spawn()
-        .unwrap();
-    // The program may stop reading before the end.
-    let _ = program.stdin.take().unwrap().write_all(input);
-    let output = program.wait_with_output().unwrap();
-    assert!(output.status.success());
-    assert_eq!(output.stdout, pathcheck(input));
-    String::from_utf8(output.stdout).unwrap()
+    let printed = proved::pathcheck(input);
+    assert_eq!(printed, pathcheck(input));
+    String::from_utf8(printed).unwrap()
 }
 
-/// The two files that a program writes.
-fn written(program: &str, names: [&str; 2]) -> [Vec<u8>; 2] {
-    let folder = std::path::Path::new(env!("CARGO_TARGET_TMPDIR"));
-    let files = names.map(|name| folder.join(name));
-    let status = Command::new(program).args(&files).status().unwrap();
-    assert!(status.success());
-    files.map(|file| std::fs::read(file).unwrap())
+/// The two files that a program writes are a crate's stored input, of which its program reads all, and output.
+fn as_stored(program: &str, name: &str) {
+    let written = Path::new(env!("CARGO_TARGET_TMPDIR")).join(name);
+    std::fs::create_dir_all(&written).unwrap();
+    let places = ["stdin", "stdout"].map(|file| written.join(file));
+    assert!(Command::new(program)
+        .args(&places)
+        .status()
+        .unwrap()
+        .success());
+    let stored = repository().join("crates").join(name);
+    let [input, output] = places.map(|place| std::fs::read(place).unwrap());
+    assert!(input.len() <= 131_072);
+    assert!(input == std::fs::read(stored.join("stdin")).unwrap());
+    assert!(output == std::fs::read(stored.join("stdout")).unwrap());
 }
 
 fn run_with(question: &str, policy: &str) -> String {
@@ -135,29 +139,25 @@ fn refusals_1_to_6_in_order() {
         ask(&long[1..], store, work, 0, 0, 0, b"/", b"/", 1),
         refused(7, 1)
     );
+}
+
+#[test]
+fn starts_and_targets() {
+    let asked = |start: &[u8], target: &[u8]| {
+        let (store, work) = (STORE_LEAST, WORK_LEAST);
+        ask(b"", store, work, 0, 0, 0, start, target, 0)
+    };
     for path in [&b"a/"[..], b"/a", b"//", b"/a//b/", b"/\0/", b"/a/b"] {
-        assert_eq!(ask(b"", store, work, 0, 0, 0, path, b"/", 0), refused(4, 0));
-        assert_eq!(ask(b"", store, work, 0, 0, 0, b"/", path, 0), refused(4, 0));
+        assert_eq!(asked(path, b"/"), refused(4, 0));
+        assert_eq!(asked(b"/", path), refused(4, 0));
     }
     for path in [&b"/"[..], b"/*/", b"/?[/", b"/./../", b"/\n\xff/"] {
-        assert_eq!(
-            ask(b"", store, work, 0, 0, 0, path, path, 0),
-            refused(14, 0)
-        );
+        assert_eq!(asked(path, path), refused(14, 0));
     }
     let of = |n: usize| [b"/", &vec![b'a'; n - 2][..], b"/"].concat();
-    assert_eq!(
-        ask(b"", store, work, 0, 0, 0, &of(64), &of(64), 0),
-        refused(14, 0)
-    );
-    assert_eq!(
-        ask(b"", store, work, 0, 0, 0, &of(65), &of(64), 0),
-        refused(4, 0)
-    );
-    assert_eq!(
-        ask(b"", store, work, 0, 0, 0, &of(64), &of(65), 0),
-        refused(4, 0)
-    );
+    assert_eq!(asked(&of(64), &of(64)), refused(14, 0));
+    assert_eq!(asked(&of(65), &of(64)), refused(4, 0));
+    assert_eq!(asked(&of(64), &of(65)), refused(4, 0));
 }
 
 #[test]
@@ -187,35 +187,16 @@ fn load_cases_as_worked_out_by_hand() {
     }
 }
 
-/// The files that the row of load cases is written to.
+/// The texts of the proved load, and their refusals.
 #[test]
-fn load_cases_in_files() {
-    let names = ["container", "expected"];
-    let [texts, pairs] = written(env!("CARGO_BIN_EXE_loads"), names);
-    let pairs = String::from_utf8(pairs).unwrap();
-    let mut rest = texts.as_slice();
-    let mut pairs = pairs.lines();
-    for case in second::load_cases::cases() {
-        let (length, next) = rest.split_at(4);
-        let (text, next) = next.split_at(u32::from_be_bytes(length.try_into().unwrap()) as usize);
-        assert_eq!(text, case.text);
-        let (number, line) = case.expected;
-        assert_eq!(pairs.next().unwrap(), format!("{number} {line}"));
-        rest = next;
-    }
-    assert!(rest.is_empty() && pairs.next().is_none());
+fn load_cases_as_stored() {
+    as_stored(env!("CARGO_BIN_EXE_loads"), "load_table");
 }
 
-/// The stored row of inputs and what is printed for them are what the samples give, and Rattle's program reads
-/// all of it.
+/// The inputs of the proved check, and what is printed for them.
 #[test]
 fn samples_as_stored() {
-    let names = ["inputs", "outputs"];
-    let [inputs, outputs] = written(env!("CARGO_BIN_EXE_samples"), names);
-    let stored = std::path::Path::new(env!("CARGO_MANIFEST_DIR")).join("../../crates/sample");
-    assert!(inputs.len() <= 131_072);
-    assert!(inputs == std::fs::read(stored.join("stdin")).unwrap());
-    assert!(outputs == std::fs::read(stored.join("stdout")).unwrap());
+    as_stored(env!("CARGO_BIN_EXE_samples"), "sample");
 }
 
 #[test]
@@ -290,50 +271,34 @@ fn the_program_reads_no_more_than_it_needs() {
     assert_eq!(run(all.as_bytes()), "8f010000\n");
 }
 
+/// The clock's question.
+const AT_A: Question = Question {
+    uid: 1,
+    gid: 0,
+    start: b"/a/",
+    target: b"/etc/",
+    kind: 0,
+};
+
 /// A run of 2,407 steps: its answer does not fit the program's room, that of the hour before does.
 #[test]
 fn a_long_run() {
-    let asked = |at: u8, room: usize| {
-        let text = text(&clock(at));
-        ask(
-            &text,
-            STORE_LEAST,
-            WORK_LEAST,
-            room,
-            1,
-            0,
-            b"/a/",
-            b"/etc/",
-            0,
-        )
-    };
     // An hour: 12 users take the special role, run 22 files and leave it; 11 run the first file again; the last
     // sets its UID, and the group runs the first file, but not at the end.
     let hour = 12 * (5 + 22 * 23 + 5) + 11 * 23 + 11 + 23;
+    let lines = question(AT_A.kind, AT_A.uid, AT_A.gid, AT_A.start, AT_A.target);
     for at in 1..=7 {
+        let text = text(&clock(at));
+        let found = weigh(&text, STORE_LEAST, WORK_LEAST, &AT_A).unwrap().found;
         let bytes = 13 + (at as usize + 1) * hour - 23;
-        let outcome = asked(at, bytes);
+        let outcome = in_room(&found, bytes);
         assert_eq!((outcome.number, outcome.value as usize), (0, bytes));
-        assert_eq!(asked(at, bytes - 1), refused(17, bytes as u32));
+        assert_eq!(in_room(&found, bytes - 1), refused(17, bytes as u32));
         let steps = steps_of(&outcome.answer);
         assert_eq!(steps.len(), (at as usize + 1) * 301 - 1);
-        let text = text(&clock(at));
-        let question = second::ask::Question {
-            uid: 1,
-            gid: 0,
-            start: b"/a/",
-            target: b"/etc/",
-            kind: 0,
-        };
-        assert_eq!(
-            replay(&text, STORE_LEAST, &question, &steps),
-            Replayed::Holds(23)
-        );
-        let input = format!(
-            "60000000000100000000\n612f612f\n622f6574632f\n{}",
-            String::from_utf8(text).unwrap()
-        );
-        let printed = run(input.as_bytes());
+        let replayed = replay(&text, STORE_LEAST, &AT_A, &steps);
+        assert_eq!(replayed, Replayed::Holds(23));
+        let printed = run(&[lines.clone(), text].concat());
         match bytes > 49_152 {
             true => assert_eq!(printed, "8f110000\n"),
             false => assert_eq!(printed.as_bytes(), outcome.answer),

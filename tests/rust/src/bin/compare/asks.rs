@@ -6,6 +6,7 @@ use second::against::{ask_weighed, Lengths, WORK_BYTES};
 use second::ask::{weigh, Outcome, Question, STORE_LEAST, TEXT_MOST};
 use second::finite::fewest_steps;
 use second::generator::{case, damage, Case, Size};
+use second::library::Library;
 use second::policy::{Policy, NOBODY};
 use second::random::Random;
 
@@ -92,6 +93,7 @@ fn confirm(outcome: &Outcome, policy: &Policy, question: &Question) -> Result<()
 }
 
 fn one(
+    library: &mut dyn Library,
     random: &mut Random,
     size: Size,
     asked: &mut Asked,
@@ -103,7 +105,7 @@ fn one(
         Ok(accepted) => room(random, accepted.found.bytes()),
         Err(_) => random.below(100),
     };
-    let outcome = ask_weighed(text, &question, &asked.lengths, &weighed)?;
+    let outcome = ask_weighed(library, text, &question, &asked.lengths, &weighed)?;
     tally.numbers[outcome.number as usize] += 1;
     if let (0, Ok(accepted)) = (outcome.number, &weighed) {
         match accepted.found.reached {
@@ -119,13 +121,19 @@ fn one(
 }
 
 /// The lane's asks; each has random numbers of its own, so that one can be done again alone.
-pub fn compare(seed: u64, lane: u64, count: u64, tally: &mut Tally) -> Result<(), Difference> {
+pub fn compare(
+    library: &mut dyn Library,
+    seed: u64,
+    lane: u64,
+    count: u64,
+    tally: &mut Tally,
+) -> Result<(), Difference> {
     for n in 0..count {
         let index = n * crate::LANES + lane;
         let random = &mut Random::of(seed, index);
         let size = size(random);
         let mut asked = drawn(random, size, 20, 6);
-        if let Err(fault) = one(random, size, &mut asked, tally) {
+        if let Err(fault) = one(library, random, size, &mut asked, tally) {
             let name = format!("seed {seed}, ask {index}: {fault}");
             let told = told(&name, &asked.text, &asked.case.question());
             return Err(Difference(format!("{told}{:?}\n", asked.lengths)));

@@ -1,10 +1,11 @@
-//! Compares the proved library, through its door for C, with the second program on seeded random input:
+//! Compares the proved library, in processes of its own, with the second program on seeded random input:
 //! `compare SEED ASKS RECORDS`. The first difference is printed with its input, and the program ends with 1.
 
 mod asks;
 mod records;
 mod tally;
 
+use second::process::Process;
 use std::process::ExitCode;
 use std::sync::atomic::{AtomicBool, AtomicU64, Ordering};
 use std::sync::Mutex;
@@ -21,17 +22,18 @@ fn share(count: u64, lane: u64) -> u64 {
     count / LANES + u64::from(lane < count % LANES)
 }
 
-/// What one thread does: lanes, until none is left or a difference is found.
+/// What one thread does, with a library of its own: lanes, until none is left or a difference is found.
 fn lanes(numbers: [u64; 3], next: &AtomicU64, stop: &AtomicBool) -> Result<Tally, Difference> {
     let [seed, asks, records] = numbers;
     let mut tally = Tally::default();
+    let library = &mut Process::start();
     while !stop.load(Ordering::Relaxed) {
         let lane = next.fetch_add(1, Ordering::Relaxed);
         if lane >= LANES {
             break;
         }
-        let compared = asks::compare(seed, lane, share(asks, lane), &mut tally)
-            .and_then(|()| records::compare(seed, lane, share(records, lane), &mut tally));
+        let compared = asks::compare(library, seed, lane, share(asks, lane), &mut tally)
+            .and_then(|()| records::compare(library, seed, lane, share(records, lane), &mut tally));
         if let Err(difference) = compared {
             stop.store(true, Ordering::Relaxed);
             return Err(difference);

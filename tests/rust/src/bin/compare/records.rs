@@ -6,6 +6,7 @@ use crate::Difference;
 use second::against::replay;
 use second::ask::Question;
 use second::generator::{damage_steps, row, Size};
+use second::library::Library;
 use second::policy::{load, Policy};
 use second::random::Random;
 use second::replay::{Replayed, Step};
@@ -67,7 +68,13 @@ fn lines(steps: &[Step]) -> String {
 }
 
 /// The lane's rows, until so many records were looked at.
-pub fn compare(seed: u64, lane: u64, records: u64, tally: &mut Tally) -> Result<(), Difference> {
+pub fn compare(
+    library: &mut dyn Library,
+    seed: u64,
+    lane: u64,
+    records: u64,
+    tally: &mut Tally,
+) -> Result<(), Difference> {
     let (mut left, mut n) = (records, 0);
     while left > 0 {
         let index = n * crate::LANES + lane;
@@ -80,7 +87,7 @@ pub fn compare(seed: u64, lane: u64, records: u64, tally: &mut Tally) -> Result<
             Ok(policy) if question.fault().is_none() => self::records(random, &policy, &question),
             _ => vec![Step::default()],
         };
-        match replay(text, &question, asked.lengths.store, &steps) {
+        match replay(library, text, &question, asked.lengths.store, &steps) {
             Ok(replayed) => left = left.saturating_sub(count(tally, replayed, steps.len())),
             Err(fault) => {
                 let name = format!("seed {seed}, row {index}: {fault}");

@@ -1,7 +1,8 @@
 //! Damaged texts: every byte changed, dropped or doubled.
 
+use crate::calls::ask;
 use crate::samples::QUESTION;
-use second::against::{ask, Lengths};
+use second::against::Lengths;
 use second::ask::Question;
 use second::generator::{case, Size};
 use second::load_cases::LISTING;

@@ -1,28 +1,20 @@
 //! What is lent: which bytes an ask changes, and that it changes no other.
 
+use crate::calls::ask_alone;
 use crate::samples::{samples, Sample, ANSWER};
 use second::against::{Lengths, WORK_BYTES};
 use second::ask::STORE_LEAST;
-use second::door::{self, Answer};
 use second::layout::layout;
 use second::lent::Area;
+use second::library::Answer;
 use second::load_cases::LISTING;
 use second::policy::load;
-
-/// A sample's ask over areas.
-fn call(sample: &Sample, store: &mut [u8], work: &mut [u8], room: &mut [u8]) -> Answer {
-    let (text, q) = (&sample.text, sample.question);
-    door::ask(
-        text, store, work, room, q.uid, q.gid, q.start, q.target, q.kind,
-    )
-}
 
 /// A sample's ask over fresh areas: the answer, and store, work area and room after it.
 fn asked(sample: &Sample) -> (Answer, [Area; 3]) {
     let Lengths { store, work, room } = sample.lengths;
     let mut areas = [Area::new(store), Area::new(work), Area::new(room)];
-    let [store, work, room] = areas.each_mut().map(Area::lent);
-    let answer = call(sample, store, work, room);
+    let answer = ask_alone(&sample.text, &mut areas, &sample.question);
     (answer, areas)
 }
 
@@ -83,6 +75,21 @@ fn the_listing_and_the_areas() {
     }
 }
 
+/// A sample's ask in the first bytes of a store and a work area, which keep what it leaves there: the answer, and
+/// the room.
+fn asked_in(store: &mut [u8], work: &mut [u8], sample: &Sample) -> (Answer, Area) {
+    let Lengths {
+        store: s, work: w, ..
+    } = sample.lengths;
+    let room = Area::new(sample.lengths.room);
+    let mut areas = [Area::with(&store[..s]), Area::with(&work[..w]), room];
+    let answer = ask_alone(&sample.text, &mut areas, &sample.question);
+    let [mut after_store, mut after_work, room] = areas;
+    store[..s].copy_from_slice(after_store.lent());
+    work[..w].copy_from_slice(after_work.lent());
+    (answer, room)
+}
+
 /// One ask leaves nothing that the next one could find: the same store and work area serve all samples in turn,
 /// and the listing after each.
 #[test]
@@ -91,16 +98,11 @@ fn areas_used_again() {
     let mut work = vec![7; WORK_BYTES];
     let listing = Sample::listing();
     for sample in samples() {
-        let Lengths {
-            store: s, work: w, ..
-        } = sample.lengths;
-        let mut room = vec![7; sample.lengths.room];
         let (number, value) = (sample.number.into(), sample.value);
-        let answer = call(&sample, &mut store[..s], &mut work[..w], &mut room);
+        let (answer, _) = asked_in(&mut store, &mut work, &sample);
         assert_eq!(answer, Answer { number, value });
-        let mut room = [7; ANSWER.len()];
-        let answer = call(&listing, &mut store, &mut work, &mut room);
+        let (answer, room) = asked_in(&mut store, &mut work, &listing);
         assert_eq!((answer.number, answer.value), (0, 41));
-        assert_eq!(room, ANSWER.as_bytes());
+        assert!(room.holds(ANSWER.as_bytes()));
     }
 }

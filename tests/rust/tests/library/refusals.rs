@@ -1,7 +1,8 @@
 //! Which refusal is given, and in which order.
 
+use crate::calls::ask;
 use crate::samples::{cases_of_texts, samples, with_faults, Sample, LONG};
-use second::against::{ask, Lengths, WORK_BYTES};
+use second::against::{Lengths, WORK_BYTES};
 use second::ask::{Question, STORE_LEAST, TEXT_MOST};
 use second::frames::{ended, text};
 use second::large::{fullest, many_states};

@@ -1,11 +1,12 @@
-//! The last file's path through the door: a part of the start, or of the store, whatever its bytes are.
+//! The last file's path: a part of the start, or of the store, whatever its bytes are.
 
+use crate::calls::{last_files, replay, replay_alone};
 use crate::runs::{all_kinds, ASKED, RUN};
 use crate::samples::{cases_of_texts, QUESTION};
-use second::against::{last_file, replay};
 use second::ask::{Question, STORE_LEAST};
-use second::door::{self, HOLDS, NOT_GRANTED, NO_STEP};
 use second::generator::{case, row, Size};
+use second::lent::Area;
+use second::library::{self, Part, HOLDS, NOT_GRANTED, NO_STEP, OF_STORE};
 use second::load_cases::LISTING;
 use second::policy::{load, Policy};
 use second::random::Random;
@@ -16,19 +17,22 @@ const COUNT: usize = 2;
 const PLACES: usize = 676;
 const POOL: usize = 2_948;
 
-/// The library's part, which must be the second program's; the start is any.
-fn part(store: &[u8], number: u8) -> &[u8] {
-    let found = last_file(b"/x/", store, number);
-    found.unwrap_or_else(|fault| panic!("{fault}: number {number}, {} bytes", store.len()))
+/// Any start.
+const START: &[u8] = b"/x/";
+
+/// Each number below 255, with the library's part of a store; for 255 it must be the whole start.
+fn parts(store: &[u8]) -> impl Iterator<Item = (u8, Part)> {
+    let numbers: Vec<u8> = (0..=NONE).collect();
+    let mut parts = last_files(START, store, &numbers);
+    assert_eq!(parts.pop(), Some(Part::start(START)));
+    numbers.into_iter().zip(parts)
 }
 
 /// A replay by the library, and the store that it leaves.
-fn replayed(text: &[u8], question: &Question, steps: &[Step]) -> (door::Replayed, Vec<u8>) {
-    let mut store = vec![7; STORE_LEAST];
-    let q = *question;
-    let (s, start) = (&mut store[..], q.start);
-    let said = door::replay(text, s, q.uid, q.gid, start, q.target, q.kind, steps);
-    (said, store)
+fn replayed(text: &[u8], question: &Question, steps: &[Step]) -> (library::Replayed, Vec<u8>) {
+    let mut store = Area::with(&[7; STORE_LEAST]);
+    let said = replay_alone(text, &mut store, question, steps);
+    (said, store.lent().to_vec())
 }
 
 /// A store with a policy that is loaded by the library.
@@ -45,22 +49,20 @@ fn number_255_is_the_whole_start() {
     let listing = loaded(LISTING.as_bytes());
     let starts = [&b""[..], b"/", b"/x/", b"no path", &[0; 200], &long];
     for store in stores.into_iter().chain([&listing[..]]) {
-        for start in starts {
-            assert!(std::ptr::eq(door::last_file(start, store, NONE), start));
-            let found = last_file(start, store, NONE);
-            assert!(std::ptr::eq(found.expect("the start"), start));
-        }
         // The start and the store may be one area.
-        assert!(std::ptr::eq(door::last_file(store, store, NONE), store));
+        for start in starts.into_iter().chain([store]) {
+            assert_eq!(last_files(start, store, &[NONE]), [Part::start(start)]);
+        }
     }
 }
 
 /// Each number below 255: the policy's path, and none past the last one.
 fn paths_of(policy: &Policy, store: &[u8]) {
-    for number in 0..NONE {
+    for (number, part) in parts(store) {
         let path = policy.paths.get(number as usize);
         let expected = path.map_or(&b""[..], |path| path.bytes());
-        assert_eq!(part(store, number), expected, "number {number}");
+        assert_eq!(part.stored, OF_STORE);
+        assert_eq!(part.of(START, store), expected, "number {number}");
     }
 }
 
@@ -84,7 +86,7 @@ fn every_path_of_a_loaded_policy() {
             // What a refusal leaves has no path.
             Err(_) => {
                 let store = refused(&text);
-                assert!((0..NONE).all(|n| part(&store, n).is_empty()));
+                assert!(parts(&store).all(|(_, part)| part == Part::EMPTY));
             }
         }
     }
@@ -100,9 +102,8 @@ fn refused(text: &[u8]) -> Vec<u8> {
 #[test]
 fn zeroed_stores() {
     let check = |store: &[u8]| {
-        for number in 0..NONE {
-            let part = part(store, number);
-            assert!(std::ptr::eq(part, &store[..0]), "number {number}");
+        for (number, part) in parts(store) {
+            assert_eq!(part, Part::EMPTY, "number {number}");
         }
     };
     for len in (0..=3_000).chain([STORE_LEAST, STORE_LEAST + 1, 70_000]) {
@@ -119,13 +120,12 @@ fn short_stores() {
     let ends = [(1, "/"), (6, "/bin/"), (11, "/etc/")].map(|(at, path)| (POOL + at, path));
     for len in 0..=3_000 {
         let store = &listing[..len];
-        for number in 0..=NONE {
-            let found = part(store, number);
+        for (number, part) in parts(store) {
             let expected = match ends.get(number as usize) {
-                _ if number == NONE => "/x/",
                 Some((end, path)) if *end <= len => path,
                 _ => "",
             };
+            let found = part.of(START, store);
             assert_eq!(found, expected.as_bytes(), "{number} of {len}");
         }
     }
@@ -137,10 +137,8 @@ fn short_stores_of_one_byte() {
     for byte in [1, 2, 3, 95, 96, 128, 254, 255] {
         let bytes = [byte; 3_000];
         for len in 0..=bytes.len() {
-            for number in 0..=NONE {
-                let found = part(&bytes[..len], number);
-                assert!(number == NONE || found.is_empty() || len > POOL);
-            }
+            let store = &bytes[..len];
+            assert!(parts(store).all(|(_, part)| part == Part::EMPTY || len > POOL));
         }
     }
 }
@@ -166,13 +164,16 @@ fn a_path_at_the_end() {
                     (end + 2, 0, false),
                 ] {
                     bytes[COUNT] = count;
-                    let store = &bytes[..len];
                     let expected = match there && size > 0 {
-                        true => &store[from..end],
-                        false => &store[..0],
+                        true => Part {
+                            stored: OF_STORE,
+                            from,
+                            size: size.into(),
+                        },
+                        false => Part::EMPTY,
                     };
-                    let found = part(store, number);
-                    assert!(std::ptr::eq(found, expected), "{number} {place} {size}");
+                    let found = last_files(START, &bytes[..len], &[number]);
+                    assert_eq!(found, [expected], "{number} {place} {size}");
                 }
             }
         }
@@ -188,8 +189,8 @@ fn random_stores() {
         let most = [800, 3_000, 4_000, STORE_LEAST, 70_000][n % 5];
         let len = random.below(most + 1);
         let store: Vec<u8> = (0..len).map(|_| random.number() as u8).collect();
-        for number in 0..NONE {
-            match part(&store, number).len() {
+        for (_, part) in parts(&store) {
+            match part.of(START, &store).len() {
                 0 => empty += 1,
                 _ => filled += 1,
             }
@@ -206,9 +207,7 @@ fn damaged_stores() {
         let own = store[at];
         for byte in 0..=255 {
             store[at] = byte;
-            for number in [0, 1, 2, 3, 4, 95, 254, NONE] {
-                part(&store, number);
-            }
+            last_files(START, &store, &[0, 1, 2, 3, 4, 95, 254, NONE]);
         }
         store[at] = own;
     }
@@ -234,14 +233,15 @@ fn after_a_replay() {
     for (question, steps, verdict, path) in table {
         let (said, store) = replayed(&text, question, steps);
         assert_eq!((said.number, said.verdict), (0, verdict));
-        let found = door::last_file(question.start, &store, said.file);
-        assert_eq!(found, path);
-        let start = std::ptr::eq(found, question.start);
+        let part = last_files(question.start, &store, &[said.file])[0];
+        assert_eq!(part.of(question.start, &store), path);
+        let start = part == Part::start(question.start);
         assert_eq!(start, path == question.start);
     }
     let (said, store) = replayed(b"", &ASKED, &RUN);
     assert_eq!((said.number, said.file), (14, NONE));
-    assert_eq!(door::last_file(ASKED.start, &store, said.file), b"/x/");
+    let found = last_files(ASKED.start, &store, &[said.file]);
+    assert_eq!(found, [Part::start(b"/x/")]);
 }
 
 /// Random rows: `replay` looks at the last file of each that holds.

@@ -1,6 +1,7 @@
 //! Asks for each number, worked out by hand.
 
-use second::against::{ask, Lengths, WORK_BYTES};
+use crate::calls::ask;
+use second::against::{Lengths, WORK_BYTES};
 use second::ask::{Question, STORE_LEAST, TEXT_MOST};
 use second::load_cases::{cases, LoadCase, LISTING};
 

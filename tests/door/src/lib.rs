@@ -1,45 +1,14 @@
 //! The proved library's door for C, as safe calls over slices.
 
-use crate::replay::Step;
+#[cfg(not(target_arch = "x86_64"))]
+compile_error!(
+    "the proved library is for x86-64: tests/rust calls it on other processors, through a process"
+);
 
-/// What an ask returns: the refusal's number, 0 for none, and a value: the answer's length for 0, the bytes
-/// needed for 17, else the line.
-#[derive(Clone, Copy, Debug, PartialEq, Eq)]
-pub struct Answer {
-    pub number: u32,
-    pub value: u32,
-}
-
-/// A replay holds.
-pub const HOLDS: u8 = 1;
-/// A record is no real step.
-pub const NO_STEP: u8 = 2;
-/// All records are real steps, and the access is not granted at the end.
-pub const NOT_GRANTED: u8 = 3;
-
-/// What a replay returns.
-#[repr(C)]
-#[derive(Clone, Copy, Debug, PartialEq, Eq)]
-pub struct Replayed {
-    /// The refusal's number, 0 for none.
-    pub number: u8,
-    /// 0 under a refusal, else HOLDS, NO_STEP or NOT_GRANTED.
-    pub verdict: u8,
-    /// The last file's path number where it holds; 255 for none, and otherwise.
-    pub file: u8,
-    /// The refusal's line.
-    pub line: usize,
-    /// The first record that is no real step; 0 under any other verdict.
-    pub first: usize,
-}
-
-/// A part of the start, for 0, or of the store, for 1.
-#[repr(C)]
-struct Part {
-    stored: u8,
-    from: usize,
-    size: usize,
-}
+use second::ask::Question;
+use second::lent::Area;
+use second::library::{Answer, Library, Part, Replayed};
+use second::replay::Step;
 
 extern "C" {
     fn leveecrumb_ask(
@@ -101,7 +70,7 @@ pub fn ask(
     // SAFETY: each pointer comes from a slice and goes with that slice's length, so it is not null and as many
     // bytes may be read there, and written where the slice is borrowed for writing. Those that are written
     // overlap nothing else, being borrowed for writing. The library keeps no pointer after the call.
-    let coded = unsafe {
+    let result = unsafe {
         leveecrumb_ask(
             text.as_ptr(),
             text.len(),
@@ -120,10 +89,7 @@ pub fn ask(
             kind,
         )
     };
-    Answer {
-        number: (coded >> 32) as u32,
-        value: coded as u32,
-    }
+    result.into()
 }
 
 /// The replay of a row of step records.
@@ -158,10 +124,10 @@ pub fn replay(
     }
 }
 
-/// The last file's path: a part of the start or of the store.
-pub fn last_file<'a>(start: &'a [u8], store: &'a [u8], number: u8) -> &'a [u8] {
+/// Where the last file's path stands.
+fn part(start: &[u8], store: &[u8], number: u8) -> Part {
     // SAFETY: as in `ask`; nothing is written.
-    let part = unsafe {
+    unsafe {
         leveecrumb_last_file(
             start.as_ptr(),
             start.len(),
@@ -169,12 +135,43 @@ pub fn last_file<'a>(start: &'a [u8], store: &'a [u8], number: u8) -> &'a [u8] {
             store.len(),
             number,
         )
-    };
-    let area = match part.stored {
-        0 => start,
-        1 => store,
-        other => panic!("no area has the number {other}"),
-    };
-    // A part that is not inside its area ends here.
-    &area[part.from..][..part.size]
+    }
+}
+
+/// The last file's path: a part of the start or of the store.
+pub fn last_file<'a>(start: &'a [u8], store: &'a [u8], number: u8) -> &'a [u8] {
+    part(start, store, number).of(start, store)
+}
+
+/// The library in this process, for the tests that it shares with the one in another.
+pub struct Door;
+
+impl Library for Door {
+    fn ask(
+        &mut self,
+        text: &[u8],
+        store: &mut Area,
+        work: &mut Area,
+        room: &mut Area,
+        question: &Question,
+    ) -> Answer {
+        let (s, w, r, q) = (store.lent(), work.lent(), room.lent(), question);
+        ask(text, s, w, r, q.uid, q.gid, q.start, q.target, q.kind)
+    }
+
+    fn replay(
+        &mut self,
+        text: &[u8],
+        store: &mut Area,
+        question: &Question,
+        steps: &[Step],
+    ) -> Replayed {
+        let (s, q) = (store.lent(), question);
+        replay(text, s, q.uid, q.gid, q.start, q.target, q.kind, steps)
+    }
+
+    fn last_files(&mut self, start: &[u8], store: &[u8], numbers: &[u8]) -> Vec<Part> {
+        let part = |number: &u8| part(start, store, *number);
+        numbers.iter().map(part).collect()
+    }
 }

@@ -1,13 +1,14 @@
-//! The replay through the door.
+//! The replay.
 
+use crate::calls::{ask_alone, replay, replay_alone};
 use crate::runs::{all_kinds, ASKED, RUN};
 use crate::samples::{cases_of_texts, with_faults, Sample, QUESTION};
-use second::against::{replay, WORK_BYTES};
+use second::against::WORK_BYTES;
 use second::ask::{steps_of, weigh, Question, STORE_LEAST, WORK_LEAST};
 use second::clock::clock;
-use second::door;
 use second::frames::{ended, entry, form, object, path, role, text};
 use second::generator::{case, Size};
+use second::lent::Area;
 use second::load_cases::LISTING;
 use second::policy::Refusal;
 use second::random::Random;
@@ -219,13 +220,11 @@ fn own_steps_hold(text: &[u8], question: &Question) -> usize {
     let Ok(accepted) = weigh(text, STORE_LEAST, WORK_LEAST, question) else {
         return 0;
     };
-    let (mut store, mut work) = (vec![1; STORE_LEAST], vec![1; WORK_BYTES]);
-    let mut room = vec![1; accepted.found.bytes()];
-    let q = *question;
-    let (s, w, r) = (&mut store[..], &mut work[..], &mut room[..]);
-    let answer = door::ask(text, s, w, r, q.uid, q.gid, q.start, q.target, q.kind);
+    let lengths = [STORE_LEAST, WORK_BYTES, accepted.found.bytes()];
+    let mut areas = lengths.map(Area::new);
+    let answer = ask_alone(text, &mut areas, question);
     assert_eq!(answer.number, 0);
-    let steps = steps_of(&room);
+    let steps = steps_of(areas[2].lent());
     if accepted.found.reached {
         let last = steps.iter().rfind(|s| s.kind == 0x84);
         let last = last.map_or(NONE, |s| s.file);
@@ -301,25 +300,11 @@ fn the_store_as_by_an_ask() {
             let said = replayed(&text, &QUESTION, steps);
             assert_eq!(said == refused, number != 0);
         }
-        let mut stores = [[1; STORE_LEAST + 9]; 2];
-        let [by_ask, by_replay] = stores.each_mut();
-        let mut work = vec![1; WORK_BYTES];
-        let q = QUESTION;
-        door::ask(
-            &text,
-            by_ask,
-            &mut work,
-            &mut [],
-            q.uid,
-            q.gid,
-            q.start,
-            q.target,
-            q.kind,
-        );
-        door::replay(
-            &text, by_replay, q.uid, q.gid, q.start, q.target, q.kind, &RUN,
-        );
-        assert_eq!(stores[0], stores[1]);
+        let mut areas = [STORE_LEAST + 9, WORK_BYTES, 0].map(Area::new);
+        ask_alone(&text, &mut areas, &QUESTION);
+        let mut store = Area::new(STORE_LEAST + 9);
+        replay_alone(&text, &mut store, &QUESTION, &RUN);
+        assert_eq!(areas[0].whole(), store.whole());
     }
     assert!((7..=16).all(|n| seen[n]) && seen[0]);
     // A store that is longer keeps the rest.
