@@ -44,15 +44,19 @@ version() {
     awk '$2 ~ /^LEVEECRUMB_VERSION_(MAJOR|MINOR|PATCH)$/ { said = said dot $3; dot = "." } END { print said }' "$root/include/leveecrumb.h"
 }
 
-need_rt() { command -v rt >/dev/null || fail "the Rattle kit's command rt, which proves and runs the program, is not on the PATH"; }
+# The kit's identity.
+find_kit() {
+    command -v rt >/dev/null || fail "the Rattle kit's command rt, which proves and runs the program, is not on the PATH"
+    kit=$(rt version 2>&1) || fail "the Rattle kit's command rt does not work: $kit"
+}
 
 # ---- building
 
 # Whether target/FILE was built with this kit, and nothing has changed since.
 is_built() { # NAME FILE
     mark=$root/target/built/$1
-    [ -f "$root/target/$2" ] && [ -f "$mark" ] && [ "$(cat "$mark")" = "$(rt version)" ] &&
-        [ -z "$(find "$root/crates" "$root/crates.txt" -newer "$mark" -print -quit)" ]
+    [ -f "$root/target/$2" ] && [ -r "$mark" ] && [ "$(cat "$mark")" = "$kit" ] &&
+        [ -z "$(find "$root/crates" "$root/crates.txt" -newer "$mark" -print -quit 2>/dev/null)" ]
 }
 
 # The crates that CRATE rests on, and itself.
@@ -73,6 +77,8 @@ crates_of() { # CRATE
 # How far rt is, by what it has said so far: crates done, of how many, the last of them, and about how long it will take.
 # docs/CHECKS.md has the seconds of each crate on two cores; what is left goes by how fast this machine did the others.
 how_far() { # CRATES LOG SECONDS
+    checks=$root/docs/CHECKS.md
+    [ -r "$checks" ] || checks=/dev/null
     awk -v crates="$1" -v log_file="$2" -v spent="$3" '
         BEGIN { total = split(crates, names, " ") }
         FILENAME != log_file && /^\| [a-z_]+ \| [0-9]+ \|/ { seconds[$2] = $4 }
@@ -86,14 +92,19 @@ how_far() { # CRATES LOG SECONDS
             left = part * 10 > all ? spent * (all - part) / part : (all - part) * 0.7
             about = left < 100 ? int(left / 10 + 1) * 10 " s" : int(left / 60 + 0.5) " min"
             printf "%d of %d crates%s; about %s left\n", count, total, last == "" ? "" : ", " last " done", about
-        }' "$root/docs/CHECKS.md" "$2"
+        }' "$checks" "$2"
 }
 
-# On a terminal one line moves; elsewhere there is a line for each crate.
-clear_line() { [ ! -t 2 ] || printf '\r%78s\r' '' >&2; }
+# On a terminal one line moves, which must not reach its edge; elsewhere there is a line for each crate.
+moving_line() { # WORDS
+    columns=$(stty size <&2 2>/dev/null | cut -d ' ' -f 2)
+    [ "${columns:-0}" -gt 1 ] && [ "$columns" -lt 79 ] || columns=79
+    printf "\\r%-$((columns - 1)).$((columns - 1))s" "$1" >&2
+}
+clear_line() { [ ! -t 2 ] || { moving_line '' && printf '\r' >&2; }; }
 tell() { # WORDS
     if [ -t 2 ]; then
-        printf '\r%-78s' "$command: $1" >&2
+        moving_line "$command: $1"
     elif [ "${1%%;*}" != "${told%%;*}" ]; then
         say "$1"
     fi
@@ -129,7 +140,7 @@ prove() { # FILE CRATE LOG
 
 # Builds target/FILE from CRATE unless it is there already. One command builds at a time: a second one waits for it.
 build() { # NAME FILE CRATE
-    need_rt
+    find_kit
     ! is_built "$1" "$2" || return 0
     folder=$root/target/built
     mkdir -p "$folder" 2>/dev/null && (: >>"$folder/lock") 2>/dev/null ||
@@ -142,12 +153,12 @@ build() { # NAME FILE CRATE
     fi
     rm -f "$folder/$1"
     # What is changed from here on is newer than the mark.
-    rt version >"$folder/$1.new" && : >"$folder/$1.log" || fail "$folder cannot be written"
+    (printf '%s\n' "$kit" >"$folder/$1.new" && : >"$folder/$1.log") 2>/dev/null || fail "$folder cannot be written"
     say "target/$2 has to be proved and built first; this is done once"
     prove "$2" "$3" "$folder/$1.log" || {
         grep -v -e ': proved$' -e '^rt: [a-z_]* proved' "$folder/$1.log" | tail -n 20 >&2
         fail "target/$2 could not be built (target/built/$1.log has all that rt said)"
     }
-    mv "$folder/$1.new" "$folder/$1"
+    mv "$folder/$1.new" "$folder/$1" 2>/dev/null || fail "$folder cannot be written"
     exec 9>&-
 }

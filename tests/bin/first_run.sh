@@ -66,7 +66,7 @@ PLAY_SECONDS=1.5 PATH=$played script -qec "'$made/checkout/bin/pathcheck' '$rack
 stopped() { # NAME SIGNAL TO-GROUP STATUS
     anew
     set -m
-    (PLAY_SECONDS=60 first) >"$made/out" 2>"$made/err" &
+    PLAY_SECONDS=60 PATH=$played "$made/checkout/bin/pathcheck" "$rack" >"$made/out" 2>"$made/err" &
     local process=$!
     set +m
     while [ ! -s "$notes" ]; do sleep 0.1; done
@@ -82,6 +82,7 @@ stopped() { # NAME SIGNAL TO-GROUP STATUS
 }
 stopped 'a stop by the terminal' INT - 130
 stopped 'a hang-up' HUP - 129
+stopped 'a stop by another process' TERM '' 143
 
 # A fault of the kit: what it left half written is not run.
 anew
