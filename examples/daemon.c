@@ -6,8 +6,8 @@
  * POLICY is a file with the policy's lines, without question lines. If it is reached, the steps of the answer are replayed. Exit status, as of
  * bin/pathcheck: 0 never, 1 reached, 2 refused, 3 no check: it could not be asked, its answer could not be written, or its steps do not hold.
  *
- *   bin/install /opt/leveecrumb
- *   PKG_CONFIG_PATH=/opt/leveecrumb/lib/pkgconfig gcc -std=c99 examples/daemon.c $(pkg-config --cflags --libs leveecrumb) -o daemon
+ *   bin/install /opt/leveecrumb && export PKG_CONFIG_PATH=/opt/leveecrumb/lib/pkgconfig
+ *   gcc -std=c99 examples/daemon.c $(pkg-config --cflags --libs leveecrumb) -o daemon
  */
 #include <stdio.h>
 #include <stdlib.h>

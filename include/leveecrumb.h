@@ -31,7 +31,7 @@ extern "C" {
 /* As one number that grows with the version, for #if. */
 #define LEVEECRUMB_VERSION_NUMBER (LEVEECRUMB_VERSION_MAJOR * 1000000 + LEVEECRUMB_VERSION_MINOR * 1000 + LEVEECRUMB_VERSION_PATCH)
 
-/* As text: "0.1.0". */
+/* As text, the three with dots between them. */
 #define LEVEECRUMB_VERSION LEVEECRUMB_VERSION_OF(LEVEECRUMB_VERSION_MAJOR, LEVEECRUMB_VERSION_MINOR, LEVEECRUMB_VERSION_PATCH)
 #define LEVEECRUMB_VERSION_OF(major, minor, patch) LEVEECRUMB_VERSION_JOIN(major, minor, patch)
 #define LEVEECRUMB_VERSION_JOIN(major, minor, patch) #major "." #minor "." #patch
