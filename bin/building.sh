@@ -13,7 +13,7 @@ fail() {
     exit 3
 }
 
-# However the command ends, no process and no temporary file of its own is left.
+# However the command ends, but by a kill that it cannot hear, no process and no temporary file of its own is left.
 leave() {
     if [ -n "$group" ]; then
         kill -s TERM -- "-$group" 2>/dev/null || kill -s TERM "$group" 2>/dev/null
