@@ -1,3 +1,4 @@
 pub mod Unique
 pub mod Short
 pub mod Small
+pub mod Numbers

@@ -23,7 +23,7 @@ use Rattle.ask.specs.declared.Answer.{Answer}
 use Rattle.ask.specs.declared.Answer.the-variants.{Answered, Refused, Short}
 use Rattle.ask.specs.Ask.{Asked, numberOf, valueOf, coded, early, startOf, questionOf, Lines, never, reached, Areas, Outcome, answerWith, Comes, ComesTo, AskedInBytes, CodedAs}
 
--- ---- a refusal's line is a line of the text
+-- ---- a refusal of a text has a number, and its line is a line of the text
 
 prepend-few : (b : ℕ) (ls : List (List ℕ)) → length (prepend b ls) ≤ suc (length ls)
 unfolding prepend
@@ -39,31 +39,44 @@ linesOf-few (b ∷ bs) = go (eqb b 10) (linesOf-few bs)
     go true h = omega arith
     go false h = omega (arith, prepend-few b (linesOf bs))
 
-stops-within : (s : Load) (ls : List (List ℕ)) (n l : ℕ) → run (going s) ls ≡ stopped n l → l ≤ s .lines + length ls
+stops-within : (s : Load) (ls : List (List ℕ)) (n l : ℕ) → run (going s) ls ≡ stopped n l → (0 < n) × (l ≤ s .lines + length ls)
 unfolding run step stepBy after
 stops-within s [] n l e = let z : _≡_ {A = ℕ} 0 1 = cc in absurd (omega arith)
 stops-within s (x ∷ xs) n l e = go (refusalOf s x) e (stops-within (after s (decoded x)) xs n l)
   where
-    go : (m : ℕ) → run (stepBy m s x) xs ≡ stopped n l → (run (going (after s (decoded x))) xs ≡ stopped n l → l ≤ s .lines + 1 + length xs) → l ≤ s .lines + suc (length xs)
-    go zero d ih = omega (arith, ih d)
-    go (suc m) d ih = let here : l ≡ s .lines + 1 = cc (run-stopped (suc m) (s .lines + 1) xs) in omega arith
+    go : (m : ℕ) → run (stepBy m s x) xs ≡ stopped n l → (run (going (after s (decoded x))) xs ≡ stopped n l → (0 < n) × (l ≤ s .lines + 1 + length xs)) → (0 < n) × (l ≤ s .lines + suc (length xs))
+    go zero d ih = let w = ih d in (w .0, omega (arith, w .1))
+    go (suc m) d ih =
+        let number : n ≡ suc m = cc (run-stopped (suc m) (s .lines + 1) xs) in
+        let here : l ≡ s .lines + 1 = cc (run-stopped (suc m) (s .lines + 1) xs) in
+        (omega arith, omega arith)
 
-finish-line : (p : Progress) (n l b : ℕ) → finish p ≡ refused n l → ((m k : ℕ) → p ≡ stopped m k → k ≤ b) → l ≤ b
+finish-within : (p : Progress) (n l b : ℕ) → finish p ≡ refused n l → ((m k : ℕ) → p ≡ stopped m k → (0 < m) × (k ≤ b)) → (0 < n) × (l ≤ b)
 unfolding finish
-finish-line (stopped m k) n l b e h = let same : k ≡ l = cc in omega (arith, h m k refl)
-finish-line (going s) n l b e h = go (not (eqb (s .last) 0x7f)) (unrooted (s .policy)) (ltb 8192 (statesOf (s .policy))) e
+finish-within (stopped m k) n l b e h =
+    let number : m ≡ n = cc in
+    let same : k ≡ l = cc in
+    let w = h m k refl in
+    (omega (arith, w .0), omega (arith, w .1))
+finish-within (going s) n l b e h = go (not (eqb (s .last) 0x7f)) (unrooted (s .policy)) (ltb 8192 (statesOf (s .policy))) e
   where
-    go : (x y z : Bool) → cond x (refused 14 0) (cond y (refused 15 0) (cond z (refused 16 0) (accepted (s .policy)))) ≡ refused n l → l ≤ b
-    go true y z d = let none : 0 ≡ l = cc in omega arith
-    go false true z d = let none : 0 ≡ l = cc in omega arith
-    go false false true d = let none : 0 ≡ l = cc in omega arith
+    ends : (m : ℕ) → 0 < m → refused m 0 ≡ refused n l → (0 < n) × (l ≤ b)
+    ends m some d =
+        let number : m ≡ n = cc in
+        let none : 0 ≡ l = cc in
+        (omega arith, omega arith)
+
+    go : (x y z : Bool) → cond x (refused 14 0) (cond y (refused 15 0) (cond z (refused 16 0) (accepted (s .policy)))) ≡ refused n l → (0 < n) × (l ≤ b)
+    go true y z d = ends 14 (omega arith) d
+    go false true z d = ends 15 (omega arith) d
+    go false false true d = ends 16 (omega arith) d
     go false false false d = let z : _≡_ {A = ℕ} 0 1 = cc in absurd (omega arith)
 
-refused-line : (text : List ℕ) (n l : ℕ) → reading text ≡ refused n l → l ≤ length text
+pub refused-within : (text : List ℕ) (n l : ℕ) → reading text ≡ refused n l → (0 < n) × (l ≤ length text)
 unfolding reading
-refused-line text n l e =
-    finish-line (run (going start) (linesOf text)) n l (length text) e
-    (λ m k h. let w = stops-within start (linesOf text) m k h in omega (arith, linesOf-few text))
+refused-within text n l e =
+    finish-within (run (going start) (linesOf text)) n l (length text) e
+    (λ m k h. let w = stops-within start (linesOf text) m k h in (w .0, omega (arith, w .1, linesOf-few text)))
 
 -- ---- the answer's length
 
@@ -111,7 +124,7 @@ module _ (places work : ℕ) (text : List ℕ) (a : Asked) (lent : Areas) (o : O
   value-most = go (early (length text) (length (lent .store)) work a) refl asked
     where
       by-reading : (r : Reading) → reading text ≡ r → length text ≤ 32768 → Comes places r a lent o → valueOf (o .answer) ≤ 188406
-      by-reading (refused n l) e h x = rw x (omega (arith, refused-line text n l e))
+      by-reading (refused n l) e h x = rw x (omega (arith, refused-within text n l e .1))
       by-reading (accepted P) e h (lines, right, x) = rw (x, value-length) (lines-most (accepted-good text P e) right)
 
       go : (n : ℕ) → early (length text) (length (lent .store)) work a ≡ n → ComesTo places n text a lent o → valueOf (o .answer) ≤ 188406

@@ -132,6 +132,18 @@ ComesTo places (suc n) text a lent o = o ≡ unchanged (suc n) lent
 abbrev pub AskedAs : List ℕ → Asked → Areas → Outcome → Type 0
 AskedAs text a lent o = ComesTo 24576 (early (length text) (length (lent .store)) (length (lent .work)) a) text a lent o
 
+-- ---- by 01's number and value
+
+-- What the number and the value of a text's answer may be, with a room of this length: the refusal and its line; 0 and the answer's length, or 17 and as many bytes needed.
+abbrev pub NumbersOf : Reading → Asked → ℕ → ℕ → ℕ → Type 0
+NumbersOf (refused n line) a room number value = (number ≡ n) × (value ≡ line)
+NumbersOf (accepted P) a room number value = (lines : List ℕ) × Lines P a lines × (number ≡ cond (leb (length lines) room) 0 17) × (value ≡ length lines)
+
+-- The same after 1 to 6, which have no line.
+abbrev pub Numbers : ℕ → List ℕ → Asked → ℕ → ℕ → ℕ → Type 0
+Numbers zero text a room number value = NumbersOf (reading text) a room number value
+Numbers (suc n) text a room number value = (number ≡ suc n) × (value ≡ 0)
+
 -- ---- for C
 
 -- The same with the work area lent as bytes, two a number.

@@ -23,8 +23,8 @@ use Rattle.ask.proofs.Small.{early-lengths}
 use Rattle.ask.specs.Ask.{Asked, Areas, Outcome, early, startOf, questionOf, Lines, answering, Comes, AskedAs}
 use Rattle.replay.specs.declared.Verdict.{Verdict}
 use Rattle.replay.specs.declared.Verdict.the-variants.{Holds, NoStep, Denied}
-use Rattle.replay.specs.Replay.{replayOf, lastFile}
-use Rattle.replay.proofs.Rows.{actsOf, afterAll, allSteps, holds-run, holds-reached, last-file-is, Fails, no-step-first, denied-last}
+use Rattle.replay.specs.Replay.{actsSaid, replayOf, lastFile}
+use Rattle.replay.proofs.Rows.{afterAll, allSteps, holds-run, holds-reached, last-file-is, Fails, no-step-first, denied-last}
 use Rattle.replay.proofs.Own.{own-steps-hold}
 use Rattle.leveecrumb.specs.declared.again.Replayed.{Replayed}
 use Rattle.leveecrumb.specs.Replaying.{Ended, telling, endedBy, endedAfter, replaying}
@@ -105,10 +105,10 @@ module _ (text : List ℕ) (a : Asked) (rows : List Step) (store : List ℕ) whe
   pub record RealRun : Type 1 where
     pub policy : Policy
     pub read : reading text ≡ accepted policy
-    pub runs : So (run policy (startOf a) (actsOf policy rows))
-    pub granted : So (access policy (a .kind) (a .target) (last (startOf a) (actsOf policy rows)))
-    pub reached : (fs : Files) → On fs (actsOf policy rows) → Reached policy (questionOf a) (startOf a) fs (length rows)
-    pub file : lastFile (a .start) (left text a rows store) (answer text a rows store .file) ≡ last (startOf a) (actsOf policy rows) .file
+    pub runs : So (run policy (startOf a) (actsSaid policy rows))
+    pub granted : So (access policy (a .kind) (a .target) (last (startOf a) (actsSaid policy rows)))
+    pub reached : (fs : Files) → On fs (actsSaid policy rows) → Reached policy (questionOf a) (startOf a) fs (length rows)
+    pub file : lastFile (a .start) (left text a rows store) (answer text a rows store .file) ≡ last (startOf a) (actsSaid policy rows) .file
 
   pub holds-real : answer text a rows store .verdict ≡ 1 → RealRun
   holds-real e =

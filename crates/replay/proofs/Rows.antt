@@ -3,7 +3,7 @@
 use mathlib.Core.Path.{_≡_, refl, sym, ap, _∙_}
 use mathlib.Core.Logic.{_⊎_, inl, inr}
 use mathlib.Core.Bool.{Bool, true, false, cond, _&&_, So, false≢true}
-use mathlib.Core.List.{List, [], _∷_, _++_, map}
+use mathlib.Core.List.{List, [], _∷_, _++_}
 use Prim.Native.Nat.{ℕ, suc, _+_}
 use native.Mathlib.Omega.{arith}
 use lib.Dec.{eqb, ltb}
@@ -23,12 +23,9 @@ use Rattle.fields.proofs.Paths.{path-read}
 use Rattle.records.specs.declared.Step.{Step}
 use Rattle.replay.specs.declared.Verdict.{Verdict}
 use Rattle.replay.specs.declared.Verdict.the-variants.{Holds, NoStep, Denied}
-use Rattle.replay.specs.Replay.{replayOf, Replayed, lastFile, plainly, names, actOf, isStep, after, follow}
+use Rattle.replay.specs.Replay.{replayOf, Replayed, lastFile, plainly, names, actOf, actsSaid, isStep, after, follow}
 
--- The acts of a row, and the process after it.
-abbrev pub actsOf : Policy → List Step → List Act
-actsOf P rows = map (actOf P) rows
-
+-- The process after a row.
 abbrev pub afterAll : Process → List Step → Process
 afterAll p [] = p
 afterAll p (r ∷ rs) = afterAll (after p r) rs
@@ -75,10 +72,10 @@ module _ (P : Policy) (good : Good P) (begin : List ℕ) where
 
   -- The acts of the row are a real run, as long as the row, with the access at its end; the number names its last file.
   pub record Run (q : Question) (p : Process) (rows : List Step) (file : ℕ) : Type 0 where
-    pub runs : So (run P (stateOf P begin p) (actsOf P rows))
-    pub size : length (actsOf P rows) ≡ length rows
-    pub granted : So (access P (q .kind) (q .target) (last (stateOf P begin p) (actsOf P rows)))
-    pub ends : last (stateOf P begin p) (actsOf P rows) .file ≡ fileOf P begin file
+    pub runs : So (run P (stateOf P begin p) (actsSaid P rows))
+    pub size : length (actsSaid P rows) ≡ length rows
+    pub granted : So (access P (q .kind) (q .target) (last (stateOf P begin p) (actsSaid P rows)))
+    pub ends : last (stateOf P begin p) (actsSaid P rows) .file ≡ fileOf P begin file
 
   pub holds-run : (q : Question) (p : Process) (at : ℕ) (rows : List Step) (file : ℕ) → follow P q begin p at rows ≡ Holds file → Run q p rows file
   unfolding follow stateOf
@@ -107,15 +104,29 @@ module _ (P : Policy) (good : Good P) (begin : List ℕ) where
       go (inl t) e ih = cons t (ih (rw t at e))
       go (inr t) e ih = let d : NoStep at ≡ Holds file = rw t at e in let z : _≡_ {A = ℕ} 0 1 = cc in absurd (omega arith)
 
+  -- Each of its records is a real step.
+  pub holds-steps : (q : Question) (p : Process) (at : ℕ) (rows : List Step) (file : ℕ) → follow P q begin p at rows ≡ Holds file → So (allSteps P begin p rows)
+  unfolding follow
+  holds-steps q p at [] file e = refl
+  holds-steps q p at (r ∷ rs) file e = go (decide (isStep P (stateOf P begin p) r)) e (holds-steps q (after p r) (at + 1) rs file)
+    where
+      σ : State
+      σ = stateOf P begin p
+
+      go : So (isStep P σ r) ⊎ (isStep P σ r ≡ false) → cond (isStep P σ r) (follow P q begin (after p r) (at + 1) rs) (NoStep at) ≡ Holds file
+          → (follow P q begin (after p r) (at + 1) rs ≡ Holds file → So (allSteps P begin (after p r) rs)) → So (isStep P σ r && allSteps P begin (after p r) rs)
+      go (inl t) e ih = both t (ih (rw t at e))
+      go (inr t) e ih = let d : NoStep at ≡ Holds file = rw t at e in let z : _≡_ {A = ℕ} 0 1 = cc in absurd (omega arith)
+
   -- From a start it reaches the access, on every file system that has the named files.
-  pub holds-reached : (q : Question) (uid gid : ℕ) (rows : List Step) (file : ℕ) (fs : Files) → replayOf P q uid gid begin rows ≡ Holds file → On fs (actsOf P rows) → Reached P q (start uid gid begin) fs (length rows)
+  pub holds-reached : (q : Question) (uid gid : ℕ) (rows : List Step) (file : ℕ) (fs : Files) → replayOf P q uid gid begin rows ≡ Holds file → On fs (actsSaid P rows) → Reached P q (start uid gid begin) fs (length rows)
   holds-reached q uid gid rows file fs e there =
       let R = holds-run q (started uid gid) 0 rows file e in
-      rw (← started-is P begin uid gid) (record { acts = actsOf P rows; steps = R .size; runs = R .runs; there = there; granted = R .granted })
+      rw (← started-is P begin uid gid) (record { acts = actsSaid P rows; steps = R .size; runs = R .runs; there = there; granted = R .granted })
 
 -- What the store says of that number is the run's last file.
 pub last-file-is : {P : Policy} {rest store : List ℕ} → Loaded P rest store → (q : Question) (begin : List ℕ) (uid gid : ℕ) (rows : List Step) (file : ℕ)
-    → replayOf P q uid gid begin rows ≡ Holds file → lastFile begin store file ≡ last (start uid gid begin) (actsOf P rows) .file
+    → replayOf P q uid gid begin rows ≡ Holds file → lastFile begin store file ≡ last (start uid gid begin) (actsSaid P rows) .file
 unfolding lastFile fileOf
 last-file-is {P} L q begin uid gid rows file e = rw (path-read L file, ← started-is P begin uid gid) (sym (holds-run P (L .good) begin q (started uid gid) 0 rows file e .ends))
 

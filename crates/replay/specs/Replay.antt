@@ -2,7 +2,7 @@
 -- Assumes nothing.
 use mathlib.Core.Path.{_≡_}
 use mathlib.Core.Bool.{Bool, true, false, cond, _&&_}
-use mathlib.Core.List.{List, [], _∷_}
+use mathlib.Core.List.{List, [], _∷_, map}
 use Prim.Native.Nat.{ℕ, _+_}
 use lib.Dec.{eqb, ltb}
 use lib.ListN.{length}
@@ -40,6 +40,10 @@ actOf P r =
     cond (eqb (r .kind) 0x81) (setSpecial (r .role))
     (cond (eqb (r .kind) 0x82) (setUid (r .uid))
     (cond (eqb (r .kind) 0x83) (setGid (r .gid)) (exec (pathAt (P .paths) (r .file)) (r .uid) (r .gid))))
+
+-- The real acts that a row says.
+abbrev pub actsSaid : Policy → List Step → List Act
+actsSaid P rows = map (actOf P) rows
 
 -- The record is a real step from σ.
 unfoldable pub isStep : Policy → State → Step → Bool

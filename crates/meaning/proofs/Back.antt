@@ -1,0 +1,111 @@
+-- An answer is read back as it was written: verdict, states opened and records, whatever stands behind it.
+-- Assumes nothing.
+use mathlib.Core.Path.{_≡_, refl, sym, ap, _∙_}
+use mathlib.Core.Bool.{Bool, true, false, cond}
+use mathlib.Core.List.{List, [], _∷_, _++_, append-assoc}
+use Prim.Native.Nat.{ℕ, suc, _/_, _%_, _+_, _≤_, _<_}
+use native.Mathlib.Omega.{arith}
+use borrow.Author.Tests.{ne-eqb}
+use lib.Dec.{eqb, ltb}
+use lib.ListN.{length}
+use lib.Seq.{take-append-seam, drop-append-seam}
+use Rattle.lines.specs.Line.{lineLength, lineOf, hexOf, digitOf, decoded, frameOf, Bytes}
+use Rattle.lines.proofs.Encoding.{bytes-lineOf, good-lineOf}
+use Rattle.gran.specs.Lists.{All}
+use Rattle.store.specs.Layout.{two}
+use Rattle.store.proofs.Reading.{two-number}
+use Rattle.policy.specs.Frames.{number2}
+use Rattle.records.specs.declared.Step.{Step}
+use Rattle.records.specs.Record.{stepBytes, stepLines, summary}
+use Rattle.records.proofs.Bytes.{stepBytes-length, sizeOf, stepBytes-most}
+use Rattle.question.specs.Question.{first, behind}
+use Rattle.meaning.specs.Read.{verdictIn, openedIn, countIn, stepIn, stepsIn, recordsIn}
+use Rattle.meaning.proofs.Steps.{Narrow, bytes-all, step-bytes, step-again}
+
+-- ---- a line
+
+-- no digit is LF
+digit-in-line : (v : ℕ) → eqb (digitOf v) 10 ≡ false
+unfolding digitOf
+digit-in-line v = ne-eqb _ _ (go (ltb v 10))
+  where
+    go : (t : Bool) → cond t (v + 48) (v + 87) ≡ 10 → ⊥
+    go true e = omega (arith, e)
+    go false e = omega (arith, e)
+
+pub line-ends : (bytes rest : List ℕ) → lineLength (lineOf bytes ++ rest) ≡ length (lineOf bytes)
+unfolding lineLength lineOf hexOf
+line-ends [] rest = refl
+line-ends (b ∷ bytes) rest = rw (digit-in-line (b / 16), digit-in-line (b % 16)) (ap (λ (n : ℕ). suc (suc n)) (line-ends bytes rest))
+
+pub first-lineOf : (bytes rest : List ℕ) → Bytes bytes → 1 ≤ length bytes → length bytes ≤ 80 → first (lineOf bytes ++ rest) ≡ frameOf bytes
+unfolding decoded
+first-lineOf bytes rest small some most = rw (line-ends bytes rest, take-append-seam (lineOf bytes) rest, good-lineOf bytes small some most, bytes-lineOf bytes small)
+
+behind-lineOf : (bytes rest : List ℕ) → behind (lineOf bytes ++ rest) ≡ rest
+behind-lineOf bytes rest = rw (line-ends bytes rest) (drop-append-seam (lineOf bytes) rest)
+
+-- ---- the first line
+
+module _ (verdict opened steps : ℕ) (rest : List ℕ) (v : verdict < 256) where
+  abbrev summaryBytes : List ℕ
+  summaryBytes = 0x80 ∷ verdict ∷ (two opened ++ two steps)
+
+  summary-first : first (summary verdict opened steps ++ rest) ≡ frameOf summaryBytes
+  unfolding summary two
+  summary-first = first-lineOf summaryBytes rest (bytes-all summaryBytes (omega arith, (v, (omega arith, (omega arith, (omega arith, (omega arith, tt))))))) (omega arith) (omega arith)
+
+  pub verdict-again : verdictIn (summary verdict opened steps ++ rest) ≡ verdict
+  unfolding frameOf
+  verdict-again = rw summary-first
+
+  pub opened-again : opened < 65536 → openedIn (summary verdict opened steps ++ rest) ≡ opened
+  unfolding frameOf number2 two
+  opened-again h = rw summary-first (two-number opened h)
+
+  pub count-again : steps < 65536 → countIn (summary verdict opened steps ++ rest) ≡ steps
+  unfolding frameOf number2 two
+  count-again h = rw summary-first (two-number steps h)
+
+  pub summary-behind : behind (summary verdict opened steps ++ rest) ≡ rest
+  unfolding summary
+  summary-behind = behind-lineOf summaryBytes rest
+
+-- ---- the steps
+
+pub steps-again : (rows : List Step) (rest : List ℕ) → All Narrow rows → stepsIn (length rows) (stepLines rows ++ rest) ≡ rows
+unfolding stepsIn
+steps-again [] rest all = refl
+steps-again (r ∷ rows) rest (narrow, all) =
+    let some : 1 ≤ length (stepBytes r) = rw (stepBytes-length r) (sizeOf-some (r .kind)) in
+    let line = first-lineOf (stepBytes r) (stepLines rows ++ rest) (step-bytes r narrow) some (omega (arith, stepBytes-most r)) in
+    rw (append-assoc (lineOf (stepBytes r)) (stepLines rows) rest, line, step-again r narrow, behind-lineOf (stepBytes r) (stepLines rows ++ rest), steps-again rows rest all)
+  where
+    sizeOf-some : (kind : ℕ) → 1 ≤ sizeOf kind
+    sizeOf-some kind = go (eqb kind 0x81) (eqb kind 0x82) (eqb kind 0x83)
+      where
+        go : (s u g : Bool) → 1 ≤ cond s 2 (cond u 5 (cond g 5 11))
+        go true u g = omega arith
+        go false true g = omega arith
+        go false false true = omega arith
+        go false false false = omega arith
+
+-- ---- an answer
+
+module _ (verdict opened : ℕ) (rows : List Step) (rest : List ℕ) (v : verdict < 256) (few : length rows < 65536) where
+  abbrev written : List ℕ
+  written = (summary verdict opened (length rows) ++ stepLines rows) ++ rest
+
+  lines-rest : written ≡ summary verdict opened (length rows) ++ (stepLines rows ++ rest)
+  lines-rest = append-assoc (summary verdict opened (length rows)) (stepLines rows) rest
+
+  pub answer-verdict : verdictIn written ≡ verdict
+  answer-verdict = rw lines-rest (verdict-again verdict opened (length rows) (stepLines rows ++ rest) v)
+
+  pub answer-opened : opened < 65536 → openedIn written ≡ opened
+  answer-opened h = rw lines-rest (opened-again verdict opened (length rows) (stepLines rows ++ rest) v h)
+
+  pub answer-records : All Narrow rows → recordsIn written ≡ rows
+  answer-records all =
+      rw (lines-rest, count-again verdict opened (length rows) (stepLines rows ++ rest) v few, summary-behind verdict opened (length rows) (stepLines rows ++ rest) v)
+      (steps-again rows rest all)

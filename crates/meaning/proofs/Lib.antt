@@ -1,0 +1,7 @@
+pub mod Steps
+pub mod Back
+pub mod Rows
+pub mod Recipes
+pub mod Telling
+pub mod Printing
+pub mod Headline

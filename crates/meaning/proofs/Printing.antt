@@ -1,0 +1,59 @@
+-- What is printed, where it begins with 80: the lines of an answer, of a text that is accepted.
+-- Assumes nothing.
+use mathlib.Core.Path.{_≡_, refl, sym, ap, subst, _∙_}
+use mathlib.Core.Bool.{Bool, true, false, cond}
+use mathlib.Core.List.{List, [], _++_, append-nil}
+use Prim.Native.Nat.{ℕ, zero, suc}
+use native.Mathlib.Omega.{arith}
+use lib.Dec.{leb}
+use lib.ListN.{length, take, drop}
+use lib.Seq.{take-append-seam}
+use Rattle.lines.specs.Line.{lineLength, goodLine, zeros, decoded, frameOf}
+use Rattle.gran.specs.Policy.{Policy}
+use Rattle.policy.specs.Frames.{typeOf}
+use Rattle.policy.specs.Load.{Reading, refused, accepted, reading}
+use Rattle.ask.specs.Ask.{Asked, early, Lines, roomWith}
+use Rattle.question.specs.Question.{first, misses, askedIn, textIn, refusalLine, Prints, PrintsAfter, PrintsBehind, Printed, CheckedAs}
+use Rattle.meaning.proofs.Telling.{refusal-other}
+
+-- The text gives a policy, and these are the lines of an answer.
+abbrev pub Answering : List ℕ → Asked → List ℕ → Type 0
+Answering text a out = (P : Policy) × (reading text ≡ accepted P) × Lines P a out
+
+module _ (room : ℕ) (input out : List ℕ) (begins : typeOf (first out) ≡ 0x80) where
+  no-refusal : (number line : ℕ) → out ≡ refusalLine number line → ⊥
+  no-refusal number line e = refusal-other number line [] (ap (λ (o : List ℕ). typeOf (first o)) (append-nil (refusalLine number line) ∙ sym e) ∙ begins)
+
+  module _ (text : List ℕ) (a : Asked) where
+    prints-lines : (r : Reading) → reading text ≡ r → Prints room r a out → Answering text a out
+    prints-lines (refused n line) read e = absurd (no-refusal n line e)
+    prints-lines (accepted P) read (lines, right, e) = go (leb (length lines) room) e
+      where
+        go : (fits : Bool) → out ≡ cond fits lines (refusalLine 17 0) → Answering text a out
+        go true e = (P, read, subst (Lines P a) (sym e) right)
+        go false e = absurd (no-refusal 17 0 e)
+
+    after-lines : (n : ℕ) → PrintsAfter room n text a out → Answering text a out
+    after-lines zero p = prints-lines (reading text) refl p
+    after-lines (suc n) p = absurd (no-refusal (suc n) 0 p)
+
+  behind-lines : (n : ℕ) → PrintsBehind room n input out → Answering (textIn input) (askedIn input) out
+  behind-lines zero p = after-lines (textIn input) (askedIn input) (early (length (textIn input)) 16384 24576 (askedIn input)) p
+  behind-lines (suc n) p = absurd (no-refusal 18 (suc n) p)
+
+  pub printed-lines : Printed room input out → Answering (textIn input) (askedIn input) out
+  printed-lines p = behind-lines (misses input) p
+
+-- nothing begins with nothing
+nothing-begins : typeOf (first []) ≡ 0x80 → ⊥
+unfolding lineLength decoded goodLine frameOf zeros
+nothing-begins e = omega (arith, e)
+
+-- What a check says it wrote is what is printed.
+pub checked-printed : {input output : List ℕ} {size : ℕ} {left : List ℕ} → CheckedAs input output size left → typeOf (first (take size left)) ≡ 0x80 → Printed (length output) input (take size left)
+unfolding roomWith
+checked-printed {input} {output} {size} {left} c begins = go (leb (length (c .out)) (length output)) (c .tells) (c .leaves)
+  where
+    go : (fits : Bool) → size ≡ cond fits (length (c .out)) 0 → left ≡ cond fits (c .out ++ drop (length (c .out)) output) output → Printed (length output) input (take size left)
+    go true s l = rw (s, l, take-append-seam (c .out) (drop (length (c .out)) output)) (c .prints)
+    go false s l = absurd (nothing-begins (rw s at begins))
