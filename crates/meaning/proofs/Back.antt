@@ -14,12 +14,12 @@ use Rattle.lines.proofs.Encoding.{bytes-lineOf, good-lineOf}
 use Rattle.gran.specs.Lists.{All}
 use Rattle.store.specs.Layout.{two}
 use Rattle.store.proofs.Reading.{two-number}
-use Rattle.policy.specs.Frames.{number2}
+use Rattle.policy.specs.Frames.{byteAt, number2}
 use Rattle.records.specs.declared.Step.{Step}
 use Rattle.records.specs.Record.{stepBytes, stepLines, summary}
 use Rattle.records.proofs.Bytes.{stepBytes-length, sizeOf, stepBytes-most}
 use Rattle.question.specs.Question.{first, behind}
-use Rattle.meaning.specs.Read.{verdictIn, openedIn, countIn, stepIn, stepsIn, recordsIn}
+use Rattle.meaning.specs.Read.{Said, spelled, stepsIn, saidIn}
 use Rattle.meaning.proofs.Steps.{Narrow, bytes-all, step-bytes, step-again}
 
 -- ---- a line
@@ -38,7 +38,7 @@ unfolding lineLength lineOf hexOf
 line-ends [] rest = refl
 line-ends (b ∷ bytes) rest = rw (digit-in-line (b / 16), digit-in-line (b % 16)) (ap (λ (n : ℕ). suc (suc n)) (line-ends bytes rest))
 
-pub first-lineOf : (bytes rest : List ℕ) → Bytes bytes → 1 ≤ length bytes → length bytes ≤ 80 → first (lineOf bytes ++ rest) ≡ frameOf bytes
+first-lineOf : (bytes rest : List ℕ) → Bytes bytes → 1 ≤ length bytes → length bytes ≤ 80 → first (lineOf bytes ++ rest) ≡ frameOf bytes
 unfolding decoded
 first-lineOf bytes rest small some most = rw (line-ends bytes rest, take-append-seam (lineOf bytes) rest, good-lineOf bytes small some most, bytes-lineOf bytes small)
 
@@ -55,25 +55,25 @@ module _ (verdict opened steps : ℕ) (rest : List ℕ) (v : verdict < 256) wher
   unfolding summary two
   summary-first = first-lineOf summaryBytes rest (bytes-all summaryBytes (omega arith, (v, (omega arith, (omega arith, (omega arith, (omega arith, tt))))))) (omega arith) (omega arith)
 
-  pub verdict-again : verdictIn (summary verdict opened steps ++ rest) ≡ verdict
+  verdict-again : byteAt (first (summary verdict opened steps ++ rest)) 1 ≡ verdict
   unfolding frameOf
   verdict-again = rw summary-first
 
-  pub opened-again : opened < 65536 → openedIn (summary verdict opened steps ++ rest) ≡ opened
+  opened-again : opened < 65536 → number2 (first (summary verdict opened steps ++ rest)) 2 ≡ opened
   unfolding frameOf number2 two
   opened-again h = rw summary-first (two-number opened h)
 
-  pub count-again : steps < 65536 → countIn (summary verdict opened steps ++ rest) ≡ steps
+  count-again : steps < 65536 → number2 (first (summary verdict opened steps ++ rest)) 4 ≡ steps
   unfolding frameOf number2 two
   count-again h = rw summary-first (two-number steps h)
 
-  pub summary-behind : behind (summary verdict opened steps ++ rest) ≡ rest
+  summary-behind : behind (summary verdict opened steps ++ rest) ≡ rest
   unfolding summary
   summary-behind = behind-lineOf summaryBytes rest
 
 -- ---- the steps
 
-pub steps-again : (rows : List Step) (rest : List ℕ) → All Narrow rows → stepsIn (length rows) (stepLines rows ++ rest) ≡ rows
+steps-again : (rows : List Step) (rest : List ℕ) → All Narrow rows → stepsIn (length rows) (stepLines rows ++ rest) ≡ rows
 unfolding stepsIn
 steps-again [] rest all = refl
 steps-again (r ∷ rows) rest (narrow, all) =
@@ -92,20 +92,23 @@ steps-again (r ∷ rows) rest (narrow, all) =
 
 -- ---- an answer
 
-module _ (verdict opened : ℕ) (rows : List Step) (rest : List ℕ) (v : verdict < 256) (few : length rows < 65536) where
-  abbrev written : List ℕ
-  written = (summary verdict opened (length rows) ++ stepLines rows) ++ rest
+-- What is written can be read back: each number has room in its bytes.
+pub record Fitting (x : Said) : Type 0 where
+  pub verdict : x .verdict < 256
+  pub opened : x .opened < 65536
+  pub count : length (x .steps) < 65536
+  pub steps : All Narrow (x .steps)
 
-  lines-rest : written ≡ summary verdict opened (length rows) ++ (stepLines rows ++ rest)
-  lines-rest = append-assoc (summary verdict opened (length rows)) (stepLines rows) rest
+-- an answer is its parts
+said-is : (x : Said) {verdict opened : ℕ} {steps : List Step} → verdict ≡ x .verdict → opened ≡ x .opened → steps ≡ x .steps
+    → _≡_ {A = Said} (record { verdict = verdict; opened = opened; steps = steps }) x
+said-is x v o s = rw (v, o, s)
 
-  pub answer-verdict : verdictIn written ≡ verdict
-  answer-verdict = rw lines-rest (verdict-again verdict opened (length rows) (stepLines rows ++ rest) v)
-
-  pub answer-opened : opened < 65536 → openedIn written ≡ opened
-  answer-opened h = rw lines-rest (opened-again verdict opened (length rows) (stepLines rows ++ rest) v h)
-
-  pub answer-records : All Narrow rows → recordsIn written ≡ rows
-  answer-records all =
-      rw (lines-rest, count-again verdict opened (length rows) (stepLines rows ++ rest) v few, summary-behind verdict opened (length rows) (stepLines rows ++ rest) v)
-      (steps-again rows rest all)
+-- Reading gives back what was written, whatever stands behind it.
+pub said-again : (x : Said) → Fitting x → (rest : List ℕ) → saidIn (spelled x ++ rest) ≡ x
+said-again x fit rest =
+    let n = length (x .steps) in
+    let tail : List ℕ = stepLines (x .steps) ++ rest in
+    ap saidIn (append-assoc (summary (x .verdict) (x .opened) n) (stepLines (x .steps)) rest)
+    ∙ said-is x (verdict-again (x .verdict) (x .opened) n tail (fit .verdict)) (opened-again (x .verdict) (x .opened) n tail (fit .verdict) (fit .opened))
+    (rw (count-again (x .verdict) (x .opened) n tail (fit .verdict) (fit .count), summary-behind (x .verdict) (x .opened) n tail (fit .verdict)) (steps-again (x .steps) rest (fit .steps)))

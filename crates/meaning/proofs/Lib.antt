@@ -4,4 +4,5 @@ pub mod Rows
 pub mod Recipes
 pub mod Telling
 pub mod Printing
+pub mod Facts
 pub mod Headline

@@ -1,6 +1,6 @@
 -- What lines mean is what their bytes tell, whatever stands behind them; and which lines a refusal's are not.
 -- Assumes nothing.
-use mathlib.Core.Path.{_≡_, refl, sym, subst}
+use mathlib.Core.Path.{_≡_, refl, sym, ap, subst}
 use mathlib.Core.Logic.{inl, inr}
 use mathlib.Core.Bool.{Bool, true, false, cond}
 use mathlib.Core.List.{List, [], _∷_, _++_, append-nil}
@@ -18,15 +18,17 @@ use Rattle.gran.specs.Good.{Good}
 use Rattle.gran.specs.Real.{started}
 use Rattle.policy.specs.Frames.{number4, typeOf}
 use Rattle.records.specs.declared.Step.{Step}
+use Rattle.records.specs.Record.{summary}
 use Rattle.policy.specs.Load.{accepted, reading}
 use Rattle.policy.proofs.Accepted.{accepted-good}
 use Rattle.ask.specs.Ask.{Asked, questionOf, Areas, Outcome}
 use Rattle.ask.proofs.Numbers.{Accepted}
 use Rattle.replay.proofs.Rows.{holds-steps}
 use Rattle.question.specs.Question.{first, askedIn, refusalLine}
+use Rattle.meaning.specs.Read.{Said, spelled, saidIn}
 use Rattle.meaning.specs.Means.{Recipe, Means, Tells, TellsOf, Wide}
 use Rattle.meaning.proofs.Steps.{Narrow}
-use Rattle.meaning.proofs.Back.{line-ends, verdict-again, answer-verdict, answer-records}
+use Rattle.meaning.proofs.Back.{line-ends, said-again}
 use Rattle.meaning.proofs.Rows.{steps-narrow}
 
 -- ---- an answer
@@ -38,12 +40,15 @@ recipe-narrow P good a wide rows recipe =
 
 pub means-tell : {P : Policy} {a : Asked} {lines : List ℕ} → Good P → Wide a → (rest : List ℕ) → Means P a lines → Tells P a (lines ++ rest)
 means-tell good wide rest (Means.never opened few nowhere) =
-    let v = verdict-again 0 opened 0 rest (omega arith) in
+    let said : Said = record { verdict = 0; opened = opened; steps = [] } in
+    let again = rw append-nil at (said-again said (record { verdict = omega arith; opened = omega arith; count = omega arith; steps = tt }) rest) in
+    let v : saidIn (summary 0 opened 0 ++ rest) .verdict ≡ 0 = ap (λ (x : Said). x .verdict) again in
     record { verdict = inl v; never = λ e. nowhere; reached = λ e. absurd (omega (arith, v, e)) }
 means-tell {P} {a} good wide rest (Means.reached rows opened few short recipe) =
-    let v = answer-verdict 1 opened rows rest (omega arith) (omega arith) in
-    let same = answer-records 1 opened rows rest (omega arith) (omega arith) (recipe-narrow P good a wide rows recipe) in
-    record { verdict = inr v; never = λ e. absurd (omega (arith, v, e)); reached = λ e. subst (Recipe P a) (sym same) recipe }
+    let said : Said = record { verdict = 1; opened = opened; steps = rows } in
+    let again = said-again said (record { verdict = omega arith; opened = omega arith; count = omega arith; steps = recipe-narrow P good a wide rows recipe }) rest in
+    let v : saidIn (spelled said ++ rest) .verdict ≡ 1 = ap (λ (x : Said). x .verdict) again in
+    record { verdict = inr v; never = λ e. absurd (omega (arith, v, e)); reached = λ e. subst (λ (x : Said). Recipe P a (x .steps)) (sym again) recipe }
 
 -- an accepted ask whose lines mean so
 pub accepted-tells : {text : List ℕ} {a : Asked} {lent : Areas} {o : Outcome} → Wide a → (x : Accepted text a lent o) → Means (x .policy) a (x .lines) → TellsOf text a (o .left .room)

@@ -15,7 +15,7 @@ use Rattle.policy.specs.Load.{accepted, reading}
 use Rattle.ask.specs.Ask.{Asked, startOf, questionOf}
 use Rattle.replay.specs.declared.Verdict.the-variants.{Holds}
 use Rattle.replay.specs.Replay.{actsSaid, replayOf}
-use Rattle.meaning.specs.Read.{verdictIn, recordsIn}
+use Rattle.meaning.specs.Read.{saidIn}
 
 -- No run of real steps, of any length, comes to the access, on any file systems.
 abbrev pub Nowhere : Policy → Asked → Type 1
@@ -39,9 +39,9 @@ pub data Means (P : Policy) (a : Asked) : List ℕ → Type 1 where
 
 -- What the bytes of an answer tell: the third and fourth digit are 00, and no run gets there; or they are 01, and the records that the lines spell are a recipe.
 pub record Tells (P : Policy) (a : Asked) (bytes : List ℕ) : Type 1 where
-  pub verdict : (verdictIn bytes ≡ 0) ⊎ (verdictIn bytes ≡ 1)
-  pub never : verdictIn bytes ≡ 0 → Nowhere P a
-  pub reached : verdictIn bytes ≡ 1 → Recipe P a (recordsIn bytes)
+  pub verdict : (saidIn bytes .verdict ≡ 0) ⊎ (saidIn bytes .verdict ≡ 1)
+  pub never : saidIn bytes .verdict ≡ 0 → Nowhere P a
+  pub reached : saidIn bytes .verdict ≡ 1 → Recipe P a (saidIn bytes .steps)
 
 -- The same of the policy that a text gives.
 pub record TellsOf (text : List ℕ) (a : Asked) (bytes : List ℕ) : Type 1 where

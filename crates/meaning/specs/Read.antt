@@ -1,25 +1,27 @@
 -- An answer read out of its bytes: the first line, and as many step lines as it says (document 01, "What is asked and what comes back").
 -- Assumes nothing.
 use mathlib.Core.Bool.{cond}
-use mathlib.Core.List.{List, [], _∷_}
+use mathlib.Core.List.{List, [], _∷_, _++_}
 use Prim.Native.Nat.{ℕ, zero, suc}
+use lib.ListN.{length}
 use Rattle.lines.specs.declared.Frame.{Frame}
 use Rattle.policy.specs.Frames.{byteAt, number2, number4, typeOf, isType}
 use Rattle.records.specs.declared.Step.{Step}
+use Rattle.records.specs.Record.{stepLines, summary}
 use Rattle.replay.specs.Replay.{stepOf}
 use Rattle.question.specs.Question.{first, behind}
 
--- The verdict: the first line's second byte, which is its third and fourth digit.
-abbrev pub verdictIn : List ℕ → ℕ
-verdictIn bytes = byteAt (first bytes) 1
+-- What an answer says.
+pub record Said : Type 0 where
+  -- 0 never, 1 reached
+  pub verdict : ℕ
+  -- states opened
+  pub opened : ℕ
+  pub steps : List Step
 
--- The states opened.
-abbrev pub openedIn : List ℕ → ℕ
-openedIn bytes = number2 (first bytes) 2
-
--- How many steps there are.
-abbrev pub countIn : List ℕ → ℕ
-countIn bytes = number2 (first bytes) 4
+-- The lines of it.
+abbrev pub spelled : Said → List ℕ
+spelled x = summary (x .verdict) (x .opened) (length (x .steps)) ++ stepLines (x .steps)
 
 -- The record that a step's line spells: `81` special role or ff; `82` UID; `83` GID; `84` object path, executed path, UID, GID after it.
 unfoldable pub stepIn : Frame → Step
@@ -34,6 +36,6 @@ unfoldable pub stepsIn : ℕ → List ℕ → List Step
 stepsIn zero text = []
 stepsIn (suc n) text = stepIn (first text) ∷ stepsIn n (behind text)
 
--- The records of an answer.
-abbrev pub recordsIn : List ℕ → List Step
-recordsIn bytes = stepsIn (countIn bytes) (behind bytes)
+-- The answer that stands in front of these bytes: the verdict is the first line's third and fourth digit, the states opened its next four; the last four say how many step lines follow.
+abbrev pub saidIn : List ℕ → Said
+saidIn bytes = record { verdict = byteAt (first bytes) 1; opened = number2 (first bytes) 2; steps = stepsIn (number2 (first bytes) 4) (behind bytes) }
