@@ -2,8 +2,9 @@
 // Rests on `paths`. A reader must believe all of specs/, which goes by 01's headings; proofs/ holds the theorems.
 // The code here is what later crates share with the model: states with their methods by value, the bits, the small rules.
 ghost use mathlib.Core.Path.{_≡_};
-ghost use Prim.Native.Nat.{_<_};
-ghost use Rattle.gran.specs.Policy.{EXEC, SET-UID, SET-GID};
+ghost use Prim.Native.Nat.{_*_, _<_};
+ghost use lib.Dec.{ltb};
+ghost use Rattle.gran.specs.Policy.{EXEC, APPEND, SET-UID, SET-GID};
 ghost use Rattle.gran.specs.Access.{has, sees, grant};
 ghost use Rattle.gran.specs.Role.{chosen, allowedBy};
 ghost use Rattle.gran.specs.Exec.{execMay};
@@ -39,6 +40,13 @@ impl Modes {
     pub const HIDE: u8 = 8;
 
     pub const APPEND: u8 = 16;
+
+    // Whether there is no bit but these.
+    pub fn in_range(self) -> bool
+        ensures { λ r. ⌜ r ≡ ltb (self .bits) (2 * APPEND) ⌝ }
+    {
+        self.bits < 2 * Modes::APPEND
+    }
 
     // Whether the modes have the bit, and not h.
     fn sees(self, bit: u8) -> bool

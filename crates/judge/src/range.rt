@@ -56,7 +56,10 @@ fn is_good_object(t: store::Tally, bytes: &[u8]) -> bool
     if t.paths <= wide(frame::byte(bytes, 1)) {
         return false;
     }
-    frame::byte(bytes, 2) < 32
+    let modes = gran::Modes {
+        bits: frame::byte(bytes, 2),
+    };
+    modes.in_range()
 }
 
 // 42 and 43: the id is in range, and its list is not under mode 0.
