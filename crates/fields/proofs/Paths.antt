@@ -37,7 +37,7 @@ module _ {P : Policy} {rest s : List ℕ} (L : Loaded P rest s) (n : ℕ) where
 
     known : pathIn s n ≡ pathAt (P .paths) n
     known =
-        path-known s n (omega (arith, store-long L, L .fits .paths)) (omega (arith, path-count L))
+        path-known s n (omega (arith, store-long L, L .fits .paths)) (omega (arith, path-count L)) .0
         ∙ rw (place-read, size-read) (part-inside s _ _ (omega (arith, within, store-long L)) ∙ path-part P (header P) rest s (L .fits) (header-length P) (held L) n)
 
   pub path-read : pathIn s n ≡ pathAt (P .paths) n
@@ -47,4 +47,4 @@ module _ {P : Policy} {rest s : List ℕ} (L : Loaded P rest s) (n : ℕ) where
       go (yes h) = known h
       go (no h) =
           let past : length (P .paths) ≤ n = omega arith in
-          path-unknown s n (omega (arith, path-count L)) ∙ sym (List·getD-eq-default (P .paths) [] past)
+          path-unknown s n (omega (arith, path-count L)) .0 ∙ sym (List·getD-eq-default (P .paths) [] past)

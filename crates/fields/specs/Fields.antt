@@ -1,5 +1,6 @@
 -- What is read at each place of the store, for any bytes (docs/LAYOUT.md); past its end every byte is 0.
 -- Assumes nothing.
+use mathlib.Core.Path.{_≡_}
 use mathlib.Core.Bool.{cond, _&&_}
 use mathlib.Core.List.{List, [], _∷_}
 use Prim.Native.Nat.{ℕ, zero, suc, _+_, _*_}
@@ -61,6 +62,10 @@ roleId s r = longAt s (16 + 22 * r + 1)
 unfoldable pub partOf : List ℕ → ℕ → ℕ → List ℕ
 partOf s from size = cond (leb (from + size) (length s)) (take size (drop from s)) []
 
+-- Where they begin, or the front where they run past the end.
+unfoldable pub partPlace : List ℕ → ℕ → ℕ → ℕ
+partPlace s from size = cond (leb (from + size) (length s)) from 0
+
 -- The length that the store states for path n.
 abbrev pub pathSize : List ℕ → ℕ → ℕ
 pathSize s n = byteAt s (676 + 3 * n + 2)
@@ -70,6 +75,22 @@ unfoldable pub pathIn : List ℕ → ℕ → List ℕ
 pathIn s n =
     cond (leb (676 + 3 * n + 3) (length s) && ltb n (pathCount s))
     (partOf s (2948 + wordAt s (676 + 3 * n)) (pathSize s n)) []
+
+-- Where its bytes begin, or the front where there is none.
+unfoldable pub pathPlace : List ℕ → ℕ → ℕ
+pathPlace s n =
+    cond (leb (676 + 3 * n + 3) (length s) && ltb n (pathCount s))
+    (partPlace s (2948 + wordAt s (676 + 3 * n)) (pathSize s n)) 0
+
+-- A pointer is a block of memory, and an offset in it.
+abbrev pub Pointer : Type 0
+Pointer = ℕ × ℕ
+
+-- What is handed back is a part of the area at a pointer: it begins so far behind it, and has these bytes.
+pub record Handed (area : Pointer) (from : ℕ) (part : List ℕ) (pointer : Pointer) (held : List ℕ) : Type 0 where
+  pub block : pointer .0 ≡ area .0
+  pub place : pointer .1 ≡ area .1 + from
+  pub bytes : held ≡ part
 
 -- Entry e: subject, role, capabilities, user mode, group mode, first object, objects, first id's place in the pool, UIDs, GIDs.
 abbrev pub entrySubject : List ℕ → ℕ → ℕ

@@ -3,7 +3,7 @@
 // field: proofs/Header.antt, Roles.antt, Paths.antt and Entries.antt, and Again.antt for the whole policy.
 ghost use mathlib.Core.Path.{_≡_};
 ghost use Prim.Native.Nat.{_+_};
-ghost use Rattle.fields.specs.Fields.{byteAt, wordAt, longAt, roleCount, pathCount, entryCount, userCount, groupCount, specialCount, subjectCount, moveCount, movesPlace, roleKind, roleId, partOf, pathSize, pathIn, entrySubject, entryRole, entryCaps, userMode, groupMode, firstObject, objectCount, firstId, uidCount, gidCount, pathFrom, objectPathAt, objectModesAt, moveRole, moveSpecial, uidAt, gidAt};
+ghost use Rattle.fields.specs.Fields.{byteAt, wordAt, longAt, roleCount, pathCount, entryCount, userCount, groupCount, specialCount, subjectCount, moveCount, movesPlace, roleKind, roleId, partOf, partPlace, pathSize, pathIn, pathPlace, Handed, entrySubject, entryRole, entryCaps, userMode, groupMode, firstObject, objectCount, firstId, uidCount, gidCount, pathFrom, objectPathAt, objectModesAt, moveRole, moveSpecial, uidAt, gidAt};
 
 // The header's bytes.
 const ROLE_COUNT: usize = 1;
@@ -159,7 +159,7 @@ pub fn role_id(store: &[u8], r: u8) -> u32
 
 // The part of the store that begins in the pool at `place`, or an empty one where that runs past the end.
 fn pool_part(store: &[u8], place: u16, size: u8) -> &[u8]
-    ensures { λ r. ⌜ now r ≡ partOf (now (store .entry)) (2948 + place) size ⌝ }
+    ensures { λ r. ⌜ Handed ((store .entry) .ptr) (partPlace (now (store .entry)) (2948 + place) size) (partOf (now (store .entry)) (2948 + place) size) (r .ptr) (now r) ⌝ }
 {
     let start = POOL + (place as usize);
     let end = start + (size as usize);
@@ -179,7 +179,7 @@ pub fn path_size(store: &[u8], n: u8) -> u8
 
 // The bytes of path `n`, or an empty part of the store where there is no such path.
 pub fn path(store: &[u8], n: u8) -> &[u8]
-    ensures { λ r. ⌜ now r ≡ pathIn (now (store .entry)) n ⌝ }
+    ensures { λ r. ⌜ Handed ((store .entry) .ptr) (pathPlace (now (store .entry)) n) (pathIn (now (store .entry)) n) (r .ptr) (now r) ⌝ }
 {
     let at = PLACES + 3 * (n as usize);
     if store.len() < at + 3 {

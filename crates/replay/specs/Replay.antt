@@ -12,7 +12,7 @@ use Rattle.gran.specs.Match.{pathAt, objectIn}
 use Rattle.gran.specs.Real.{State, Act, setSpecial, setUid, setGid, exec, entry, may, access, stateOf, started, taken, userSet, groupSet, executing}
 use Rattle.gran.specs.Reach.{Question}
 use Rattle.gran.specs.declared.Process.{Process}
-use Rattle.fields.specs.Fields.{pathIn}
+use Rattle.fields.specs.Fields.{pathIn, pathPlace, Pointer}
 use Rattle.records.specs.declared.Step.{Step}
 use Rattle.store.specs.Held.{Loaded}
 use Rattle.replay.specs.declared.Verdict.{Verdict}
@@ -73,3 +73,10 @@ Replayed store begin target uid gid kind rows r = (P : Policy) (rest : List ℕ)
 -- The last file's path, by its number: the start where nothing was executed, else what the store's bytes say.
 unfoldable pub lastFile : List ℕ → List ℕ → ℕ → List ℕ
 lastFile start store number = cond (eqb number none) start (pathIn store number)
+
+-- Where it stands: in the start from its front on, else in the store from the path's place on.
+unfoldable pub lastArea : Pointer → Pointer → ℕ → Pointer
+lastArea start store number = cond (eqb number none) start store
+
+unfoldable pub lastPlace : List ℕ → ℕ → ℕ
+lastPlace store number = cond (eqb number none) 0 (pathPlace store number)

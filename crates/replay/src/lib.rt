@@ -13,8 +13,9 @@ ghost use Rattle.gran.specs.Access.{has, sees};
 ghost use Rattle.gran.specs.Exec.{execMay};
 ghost use Rattle.gran.specs.Real.{entry, may, mayExec, access, fileOf, stateOf};
 ghost use Rattle.store.specs.Held.{Loaded};
+ghost use Rattle.fields.specs.Fields.{Handed};
 ghost use Rattle.lookup.specs.Lookup.{Graded, entryAt};
-ghost use Rattle.replay.specs.Replay.{plainly, names, actOf, isStep, after, Replayed, lastFile, stepOf};
+ghost use Rattle.replay.specs.Replay.{plainly, names, actOf, isStep, after, Replayed, lastFile, lastArea, lastPlace, stepOf};
 ghost use Rattle.replay.specs.Progress.{opened, concluded, Advanced};
 
 // What a row of records says of a loaded policy.
@@ -29,7 +30,7 @@ pub enum Verdict {
 
 // The last file's path: the whole start where nothing was executed, else a part of the store.
 pub fn last_file<'a>(start: &'a [u8], store: &'a [u8], number: u8) -> &'a [u8]
-    ensures { λ r. ⌜ now r ≡ lastFile (now (start .entry)) (now (store .entry)) number ⌝ }
+    ensures { λ r. ⌜ Handed (lastArea ((start .entry) .ptr) ((store .entry) .ptr) number) (lastPlace (now (store .entry)) number) (lastFile (now (start .entry)) (now (store .entry)) number) (r .ptr) (now r) ⌝ }
 {
     if number == gran::NONE {
         return start;

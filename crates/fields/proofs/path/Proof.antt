@@ -1,6 +1,6 @@
 -- `fields::path` meets its contract: no path where the store is too short or states none of that number.
 -- Assumes nothing.
-use mathlib.Core.Path.{sym}
+use mathlib.Core.Path.{refl, sym}
 use Prim.Native.Nat.{_≤_, _<_}
 use denote.Ref.{now}
 use Rattle.fields.specs.Fields.{pathCount}
@@ -28,7 +28,10 @@ part-result-end : tie.Need-part-result-end
 part-result-end c = search needs
 
 returns : tie.Need-returns
-returns c = let a = c .before .before .before .args in sym (path-short (now (a .store)) (a .n) (c .before .if1 .taken))
+returns c =
+    let a = c .before .before .before .args in
+    let none = path-short (now (a .store)) (a .n) (c .before .if1 .taken) in
+    record { block = refl; place = rw (none .1) (search needs); bytes = sym (none .0) }
 
 path-count-requires : tie.Need-path-count-requires
 path-count-requires c κs = search needs
@@ -46,7 +49,8 @@ returns-2 : tie.Need-returns-2
 returns-2 c =
     let a = c .before .before .before .before .before .args in
     let few : pathCount (now (a .store)) ≤ a .n = rw (c .before .before .path-count .ensures) at (c .before .if2 .taken) in
-    sym (path-unknown (now (a .store)) (a .n) few)
+    let none = path-unknown (now (a .store)) (a .n) few in
+    record { block = refl; place = rw (none .1) (search needs); bytes = sym (none .0) }
 
 word-requires : tie.Need-word-requires
 word-requires c κs = search needs
@@ -62,7 +66,8 @@ returns-3 c =
     let a = c .before .before .before .before .before .before .before .args in
     let known : a .n < pathCount (now (a .store)) = rw (c .before .before .before .before .path-count .ensures) at (c .before .before .before .if2 .left) in
     let e = path-known (now (a .store)) (a .n) (c .before .before .before .before .before .if1 .left) known in
-    cc
+    let part = c .pool-part .ensures in
+    record { block = part .block; place = cc; bytes = cc }
 
 pub path-spec : {M : Type 1} → statement M
 path-spec =

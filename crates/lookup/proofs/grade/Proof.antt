@@ -11,7 +11,7 @@ path-requires c κs = search needs
 
 returns : tie.Need-returns
 unfolding gradeIn
-returns c = rw (← c .before .path .ensures, lt-leb _ _ (c .if1 .taken))
+returns c = rw (← c .before .path .ensures .bytes, lt-leb _ _ (c .if1 .taken))
 
 under-requires : tie.Need-under-requires
 under-requires c κs = search needs
@@ -24,11 +24,11 @@ cast-result c = search needs
 
 returns-2 : tie.Need-returns-2
 unfolding gradeIn
-returns-2 c = rw (← c .before .before .before .path .ensures, le-leb _ _ (c .before .before .if1 .left), ← c .before .under .ensures, c .if2 .taken)
+returns-2 c = rw (← c .before .before .before .path .ensures .bytes, le-leb _ _ (c .before .before .if1 .left), ← c .before .under .ensures, c .if2 .taken)
 
 returns-3 : tie.Need-returns-3
 unfolding gradeIn
-returns-3 c = rw (← c .before .before .before .path .ensures, le-leb _ _ (c .before .before .if1 .left), ← c .before .under .ensures, c .if2 .left)
+returns-3 c = rw (← c .before .before .before .path .ensures .bytes, le-leb _ _ (c .before .before .if1 .left), ← c .before .under .ensures, c .if2 .left)
 
 pub grade-spec : {M : Type 1} → statement M
 grade-spec =

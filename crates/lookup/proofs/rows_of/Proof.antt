@@ -70,7 +70,7 @@ loop-again c =
       took .kept .1 .1 .1 .1 .1 .1 .0 ∙ loop .inv .4,
       λ P rest L named.
           let known : loop .q < length (P .paths) = omega (arith, c .before .before .before .before .before .before .before .before .before .before .before .before .before .before .before .before .path-count .ensures, path-count L) in
-          let grade = c .before .before .before .before .before .before .before .before .before .before .before .grade-beside .ensures P rest L named (c .before .before .before .before .before .before .before .before .before .before .before .before .before .before .path .ensures ∙ path-read L (args .c)) known in
+          let grade = c .before .before .before .before .before .before .before .before .before .before .before .grade-beside .ensures P rest L named (c .before .before .before .before .before .before .before .before .before .before .before .before .before .before .path .ensures .bytes ∙ path-read L (args .c)) known in
           let t = loop .inv .5 P rest L named in (
             tops-more 32 (args .entries .now) (gradeOf P _) (loop .q) (loop .tops) (loop .force) _ _ (rw grade at (took .ensures .0)) (t .0),
             tops-more 64 (args .objects .now) (gradeOf P _) (loop .q) (loop .most) (loop .places) _ _ (rw grade at (took .ensures .1)) (t .1),
@@ -87,7 +87,7 @@ returns-2 : tie.Need-returns-2 Inv-loop μ-loop
 returns-2 c P rest L named =
     let args = c .before .before .before .before .before .before .before .before .before .before .args in
     let made = c .before .before .before .before .before .before .before .before .before .before .pre .0 in
-    let is = c .before .before .path .ensures ∙ path-read L (args .c) in
+    let is = c .before .before .path .ensures .bytes ∙ path-read L (args .c) in
     let all : c .before .loop .q ≡ length (P .paths) = omega (arith, c .before .before .before .before .path-count .ensures, path-count L) in
     let t = c .before .loop .inv .5 P rest L named in
     record { force-is = tops-force L (pathAt (P .paths) (args .c)) (rw (made .0, is, all) at (t .0)); place-is = tops-placed L (pathAt (P .paths) (args .c)) (rw (made .1, is, all) at (t .1)) }

@@ -22,7 +22,7 @@ grades-for-requires-2 c κs = search needs
 
 returns-2 : tie.Need-returns-2
 unfolding fileOf
-returns-2 c P rest L = rw (ne-eqb _ _ (c .before .before .if1 .left), ← path-read L (c .before .before .before .before .before .args .file), ← c .before .path .ensures) (c .grades-for2 .ensures P rest L)
+returns-2 c P rest L = rw (ne-eqb _ _ (c .before .before .if1 .left), ← path-read L (c .before .before .before .before .before .args .file), ← c .before .path .ensures .bytes) (c .grades-for2 .ensures P rest L)
 
 pub grades-of-spec : {M : Type 1} → statement M
 grades-of-spec =

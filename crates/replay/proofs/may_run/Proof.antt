@@ -44,7 +44,7 @@ returns-2 c P rest L known =
     let A = c .before .before .before .before .before .before .before .before .before .before .args in
     let inside : A .file < length (P .paths) = omega (arith, c .before .before .before .before .before .before .before .if1 .left, c .before .before .before .before .before .before .before .before .path-count .ensures, path-count L) in
     let graded : Graded P (pathAt (P .paths) (A .file)) (c .before .before .before .before .before .grades-for .result .of) =
-    subst (λ (f : List ℕ). Graded P f (c .before .before .before .before .before .grades-for .result .of)) (c .before .before .before .before .before .before .path .ensures ∙ path-read L (A .file)) (c .before .before .before .before .before .grades-for .ensures P rest L) in
+    subst (λ (f : List ℕ). Graded P f (c .before .before .before .before .before .grades-for .result .of)) (c .before .before .before .before .before .before .path .ensures .bytes ∙ path-read L (A .file)) (c .before .before .before .before .before .grades-for .ensures P rest L) in
     let placed = c .before .before .object-in .ensures P rest (pathAt (P .paths) (A .file)) L graded known in
     rw (lt-ltb _ _ inside, ← object-path-is L known placed, ← c .before .object-path .ensures, ne-eqb _ _ (λ e. c .if2 .taken (sym e)))
 
@@ -59,7 +59,7 @@ returns-3 c P rest L known =
     let A = c .before .before .before .before .before .before .before .before .before .before .before .before .args in
     let inside : A .file < length (P .paths) = omega (arith, c .before .before .before .before .before .before .before .before .before .if1 .left, c .before .before .before .before .before .before .before .before .before .before .path-count .ensures, path-count L) in
     let graded : Graded P (pathAt (P .paths) (A .file)) (c .before .before .before .before .before .before .before .grades-for .result .of) =
-    subst (λ (f : List ℕ). Graded P f (c .before .before .before .before .before .before .before .grades-for .result .of)) (c .before .before .before .before .before .before .before .before .path .ensures ∙ path-read L (A .file)) (c .before .before .before .before .before .before .before .grades-for .ensures P rest L) in
+    subst (λ (f : List ℕ). Graded P f (c .before .before .before .before .before .before .before .grades-for .result .of)) (c .before .before .before .before .before .before .before .before .path .ensures .bytes ∙ path-read L (A .file)) (c .before .before .before .before .before .before .before .grades-for .ensures P rest L) in
     let placed = c .before .before .before .before .object-in .ensures P rest (pathAt (P .paths) (A .file)) L graded known in
     rw (
       lt-ltb _ _ inside,

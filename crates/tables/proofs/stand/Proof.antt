@@ -27,7 +27,7 @@ closest-in-requires c κs = search needs
 
 returns-2 : tie.Need-returns-2
 returns-2 c P rest L own =
-    c .closest-in .ensures P rest L own ∙ ap (λ (f : List ℕ). place (eqb (subjectOf P f)) 0 (pathsOfS P)) (c .before .path .ensures ∙ path-read L _)
+    c .closest-in .ensures P rest L own ∙ ap (λ (f : List ℕ). place (eqb (subjectOf P f)) 0 (pathsOfS P)) (c .before .path .ensures .bytes ∙ path-read L _)
 
 pub stand-spec : {M : Type 1} → statement M
 stand-spec =

@@ -20,7 +20,7 @@ path-requires c κs = search needs
 returns-2 : tie.Need-returns-2
 returns-2 c =
     let a = c .before .before .before .before .before .args in
-    at-none (now (a .start)) (now (a .store)) (a .number) (c .before .before .if1 .left) (sym (ap (λ (l : List ℕ). length l) (c .before .path .ensures)) ∙ c .if2 .taken)
+    at-none (now (a .start)) (now (a .store)) (a .number) (c .before .before .if1 .left) (sym (ap (λ (l : List ℕ). length l) (c .before .path .ensures .bytes)) ∙ c .if2 .taken)
 
 mul-word : tie.Need-mul-word
 mul-word c = search needs
@@ -40,7 +40,7 @@ add-t11 c = search needs
 returns-3 : tie.Need-returns-3
 returns-3 c =
     let a = c .before .before .before .before .before .before .args in
-    let same : length (now (c .before .before .path .result)) ≡ length (pathIn (now (a .store)) (a .number)) = ap (λ (l : List ℕ). length l) (c .before .before .path .ensures) in
+    let same : length (now (c .before .before .path .result)) ≡ length (pathIn (now (a .store)) (a .number)) = ap (λ (l : List ℕ). length l) (c .before .before .path .ensures .bytes) in
     rw (c .word .ensures, same) (at-path (now (a .start)) (now (a .store)) (a .number) (c .before .before .before .if1 .left) (λ z. c .before .if2 .left (same ∙ z)))
 
 pub leveecrumb-last-file-spec : {M : Type 1} → statement M
