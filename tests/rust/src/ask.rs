@@ -94,6 +94,24 @@ impl Found {
         lines
     }
 
+    /// Reads the answer that stands in front of these bytes: as many step lines as its first line says, whatever
+    /// follows them.
+    pub fn read(bytes: &[u8]) -> Option<Found> {
+        let (head, mut rest) = take_line(bytes)?;
+        let head = head.bytes();
+        let mut steps = Vec::new();
+        for _ in 0..number(&head[4..6]) {
+            let (line, behind) = take_line(rest)?;
+            steps.push(step_of(line.bytes()));
+            rest = behind;
+        }
+        Some(Found {
+            reached: head[1] == 1,
+            opened: number(&head[2..4]) as usize,
+            steps,
+        })
+    }
+
     /// The answer's length.
     pub fn bytes(&self) -> usize {
         let line = |step: &Step| match step.kind {
@@ -105,33 +123,22 @@ impl Found {
     }
 }
 
-/// Reads the steps back from an answer's lines.
-pub fn steps_of(answer: &[u8]) -> Vec<Step> {
-    let mut steps = Vec::new();
-    let mut rest = answer;
-    while let Some((line, next)) = take_line(rest) {
-        let bytes = line.bytes();
-        let mut step = Step {
-            kind: bytes[0],
-            ..Step::default()
-        };
-        match bytes[0] {
-            TAKE_SPECIAL => step.role = bytes[1],
-            SET_USER => step.uid = number(&bytes[1..5]),
-            SET_GROUP => step.gid = number(&bytes[1..5]),
-            EXECUTE => {
-                (step.object, step.file) = (bytes[1], bytes[2]);
-                (step.uid, step.gid) = (number(&bytes[3..7]), number(&bytes[7..11]));
-            }
-            _ => {
-                rest = next;
-                continue;
-            }
+/// The step that a line's bytes spell.
+fn step_of(bytes: &[u8]) -> Step {
+    let mut step = Step {
+        kind: bytes[0],
+        ..Step::default()
+    };
+    match bytes[0] {
+        TAKE_SPECIAL => step.role = bytes[1],
+        SET_USER => step.uid = number(&bytes[1..5]),
+        SET_GROUP => step.gid = number(&bytes[1..5]),
+        _ => {
+            (step.object, step.file) = (bytes[1], bytes[2]);
+            (step.uid, step.gid) = (number(&bytes[3..7]), number(&bytes[7..11]));
         }
-        steps.push(step);
-        rest = next;
     }
-    steps
+    step
 }
 
 /// An accepted text, and what the search finds in it.

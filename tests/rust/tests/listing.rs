@@ -1,6 +1,6 @@
 //! The whole listing, the small facts that are run, and the proved program.
 
-use second::ask::{answered as in_room, ask, steps_of, weigh, Outcome, Question};
+use second::ask::{answered as in_room, ask, weigh, Found, Outcome, Question};
 use second::ask::{STORE_LEAST, TEXT_MOST, WORK_LEAST};
 use second::clock::clock;
 use second::frames::text;
@@ -294,7 +294,7 @@ fn a_long_run() {
         let outcome = in_room(&found, bytes);
         assert_eq!((outcome.number, outcome.value as usize), (0, bytes));
         assert_eq!(in_room(&found, bytes - 1), refused(17, bytes as u32));
-        let steps = steps_of(&outcome.answer);
+        let steps = Found::read(&outcome.answer).unwrap().steps;
         assert_eq!(steps.len(), (at as usize + 1) * 301 - 1);
         let replayed = replay(&text, STORE_LEAST, &AT_A, &steps);
         assert_eq!(replayed, Replayed::Holds(23));

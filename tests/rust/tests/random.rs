@@ -1,6 +1,6 @@
 //! Random policies: the ask against replay, against the definitions and against a search of real steps.
 
-use second::ask::{ask, steps_of, Question, STORE_LEAST, WORK_LEAST};
+use second::ask::{ask, Found, Question, STORE_LEAST, WORK_LEAST};
 use second::finite::fewest_steps;
 use second::generator::{case, damage, damage_steps, Case, Size};
 use second::model;
@@ -62,10 +62,10 @@ fn own_steps_hold() {
         }
         accepted += 1;
         assert_eq!(outcome.value as usize, outcome.answer.len());
-        let steps = steps_of(&outcome.answer);
-        opened +=
-            u32::from_str_radix(std::str::from_utf8(&outcome.answer[4..8]).unwrap(), 16).unwrap();
-        if outcome.answer[3] == b'0' {
+        let found = Found::read(&outcome.answer).unwrap();
+        let steps = found.steps;
+        opened += found.opened;
+        if !found.reached {
             never += 1;
             assert_eq!(outcome.answer.len(), 13);
         } else {

@@ -4,7 +4,7 @@ use crate::calls::{ask_alone, replay, replay_alone};
 use crate::runs::{all_kinds, ASKED, RUN};
 use crate::samples::{cases_of_texts, with_faults, Sample, QUESTION};
 use second::against::WORK_BYTES;
-use second::ask::{steps_of, weigh, Question, STORE_LEAST, WORK_LEAST};
+use second::ask::{weigh, Found, Question, STORE_LEAST, WORK_LEAST};
 use second::clock::clock;
 use second::frames::{ended, entry, form, object, path, role, text};
 use second::generator::{case, Size};
@@ -215,16 +215,17 @@ fn rows_of_any_length() {
     assert_eq!(replayed(&text, &ASKED, &many), Replayed::NoStep(99_999));
 }
 
-/// The steps of an answer hold, and the file is that of the last exec.
+/// The answer is read out of a longer room; its steps hold, and the file is that of the last exec.
 fn own_steps_hold(text: &[u8], question: &Question) -> usize {
     let Ok(accepted) = weigh(text, STORE_LEAST, WORK_LEAST, question) else {
         return 0;
     };
-    let lengths = [STORE_LEAST, WORK_BYTES, accepted.found.bytes()];
+    let lengths = [STORE_LEAST, WORK_BYTES, accepted.found.bytes() + 50];
     let mut areas = lengths.map(Area::new);
     let answer = ask_alone(text, &mut areas, question);
     assert_eq!(answer.number, 0);
-    let steps = steps_of(areas[2].lent());
+    assert_eq!(Found::read(areas[2].lent()).as_ref(), Some(&accepted.found));
+    let steps = accepted.found.steps;
     if accepted.found.reached {
         let last = steps.iter().rfind(|s| s.kind == 0x84);
         let last = last.map_or(NONE, |s| s.file);

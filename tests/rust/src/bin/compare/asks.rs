@@ -3,7 +3,7 @@
 use crate::tally::Tally;
 use crate::Difference;
 use second::against::{ask_weighed, Lengths, WORK_BYTES};
-use second::ask::{weigh, Outcome, Question, STORE_LEAST, TEXT_MOST};
+use second::ask::{weigh, Found, Outcome, Question, STORE_LEAST, TEXT_MOST};
 use second::finite::fewest_steps;
 use second::generator::{case, damage, Case, Size};
 use second::library::Library;
@@ -81,12 +81,19 @@ fn room(random: &mut Random, needed: usize) -> usize {
     }
 }
 
-/// Verdict and count of steps in the library's answer must be those of a search of real steps.
-fn confirm(outcome: &Outcome, policy: &Policy, question: &Question) -> Result<(), String> {
-    let lines = outcome.answer.iter().filter(|b| **b == b'\n').count();
-    let reached = outcome.answer.starts_with(b"8001");
+/// What is read out of the library's answer must be what the second program found.
+fn read_back(outcome: &Outcome, found: &Found) -> Result<(), String> {
+    let read = Found::read(&outcome.answer);
+    match read.as_ref() == Some(found) {
+        true => Ok(()),
+        false => Err(format!("the answer reads {read:?}")),
+    }
+}
+
+/// Verdict and count of steps must be those of a search of real steps.
+fn confirm(found: &Found, policy: &Policy, question: &Question) -> Result<(), String> {
     let fewest = fewest_steps(policy, question);
-    match reached.then_some(lines - 1) == fewest {
+    match found.reached.then_some(found.steps.len()) == fewest {
         true => Ok(()),
         false => Err(format!("real steps say {fewest:?}")),
     }
@@ -108,12 +115,13 @@ fn one(
     let outcome = ask_weighed(library, text, &question, &asked.lengths, &weighed)?;
     tally.numbers[outcome.number as usize] += 1;
     if let (0, Ok(accepted)) = (outcome.number, &weighed) {
+        read_back(&outcome, &accepted.found)?;
         match accepted.found.reached {
             true => tally.reached(accepted.found.steps.len()),
             false => tally.never += 1,
         }
         if size == Size::Small {
-            confirm(&outcome, &accepted.policy, &question)?;
+            confirm(&accepted.found, &accepted.policy, &question)?;
             tally.confirmed += 1;
         }
     }
