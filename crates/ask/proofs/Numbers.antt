@@ -10,6 +10,7 @@ use lib.ListN.{length, drop}
 use Rattle.gran.specs.Policy.{Policy}
 use Rattle.policy.specs.Load.{Reading, refused, accepted, reading}
 use Rattle.ask.proofs.Small.{refused-within}
+use Rattle.ask.proofs.Unique.{lines-unique}
 use Rattle.ask.specs.declared.Answer.the-variants.{Answered, Short}
 use Rattle.ask.specs.Ask.{Asked, numberOf, valueOf, early, Lines, Areas, Outcome, answerWith, roomWith, Comes, ComesTo, NumbersOf, Numbers}
 
@@ -99,3 +100,14 @@ module _ (places work : ℕ) (text : List ℕ) (a : Asked) (lent : Areas) (o : O
       go : (first : ℕ) → ComesTo places first text a lent o → roomLeft o ≡ lent .room
       go zero x = by-reading (reading text) x
       go (suc n) x = ap roomLeft x
+
+-- One number and one value.
+pub numbers-unique : (first : ℕ) (text : List ℕ) (a : Asked) (room : ℕ) {m n v w : ℕ} → Numbers first text a room m v → Numbers first text a room n w → (m ≡ n) × (v ≡ w)
+numbers-unique zero text a room x y = go (reading text) x y
+  where
+    go : (r : Reading) {m n v w : ℕ} → NumbersOf r a room m v → NumbersOf r a room n w → (m ≡ n) × (v ≡ w)
+    go (refused k line) x y = (x .0 ∙ sym (y .0), x .1 ∙ sym (y .1))
+    go (accepted P) (ls, l, c, d) (ks, k, e, f) =
+        let same = lines-unique l k in
+        (c ∙ ap (λ (lines : List ℕ). cond (leb (length lines) room) 0 17) same ∙ sym e, d ∙ ap (λ (lines : List ℕ). length lines) same ∙ sym f)
+numbers-unique (suc k) text a room x y = (x .0 ∙ sym (y .0), x .1 ∙ sym (y .1))

@@ -1,6 +1,6 @@
 // The model of 001 as document 01 decides it: a policy, real and abstract steps, access, runs, and the theorems that link them.
 // Rests on `paths`. A reader must believe all of specs/, which goes by 01's headings; proofs/ holds the theorems.
-// The code here is what later crates share with the model: states with their methods by value, the bits, the small rules.
+// The code here is the model's own: the bits and the small rules, a process with its real steps, which later crates call, and the abstract state with its steps.
 ghost use mathlib.Core.Path.{_≡_};
 ghost use Prim.Native.Nat.{_*_, _<_};
 ghost use lib.Dec.{ltb};

@@ -1,4 +1,4 @@
--- The answers to 01's listing and to its reading of nothing, read out of the bytes that `listing` prints.
+-- Two answers read out of the bytes that `listing` prints: to 01's listing, and to the same asked for UID 1001.
 -- Assumes nothing.
 use mathlib.Core.Path.{_≡_, refl}
 use mathlib.Core.List.{List, [], _∷_, _++_}
@@ -6,7 +6,7 @@ use Prim.Native.Nat.{ℕ}
 use Rattle.lines.specs.Line.{lineLength, decoded, goodLine, hexPairs, pairValue, hexValue, bytesOf, frameOf, zeros}
 use Rattle.policy.specs.Frames.{number2, number4}
 use Rattle.replay.specs.Replay.{stepOf}
-use Rattle.meaning.specs.Read.{Said, stepIn, stepsIn, saidIn}
+use Rattle.meaning.specs.Read.{stepIn, stepsIn, saidIn}
 
 -- 800100020002, 8102, 840101000003e800000064
 abbrev reached : List ℕ

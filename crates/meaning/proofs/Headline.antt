@@ -19,10 +19,10 @@ use Rattle.ask.specs.Ask.{Asked, numberOf, coded, early, startOf, questionOf, L
 use Rattle.ask.proofs.Small.{c-parts}
 use Rattle.ask.proofs.Numbers.{number-zero}
 use Rattle.question.specs.Question.{first, misses, askedIn, textIn, refusalLine, Printed, CheckedAs}
-use Rattle.meaning.specs.Means.{Means, TellsOf, Wide}
+use Rattle.meaning.specs.Means.{Means, TellsOf, FourByteIds}
 use Rattle.meaning.proofs.Recipes.{never-few, shown-few, shown-short, shown-recipe}
-use Rattle.meaning.proofs.Telling.{accepted-tells, printed-so, asked-wide}
-use Rattle.meaning.proofs.Printing.{printed-lines, checked-printed}
+use Rattle.meaning.proofs.Telling.{accepted-tells, printed-so}
+use Rattle.meaning.proofs.Printing.{asked-ids, printed-lines, checked-printed}
 
 -- ---- what the lines mean
 
@@ -65,23 +65,23 @@ printed-means room input out printed asks none P read = go (rw (asks, none, read
 -- or they are 01, and the records that the lines spell are real steps to the access, and no run with fewer gets there on any
 
 -- The room after an ask with number 0, in Rattle.
-pub asked-tells : (text : List ℕ) (a : Asked) (lent : Areas) (o : Outcome) → AskedAs text a lent o → Wide a → numberOf (o .answer) ≡ 0 → TellsOf text a (o .left .room)
-asked-tells text a lent o asked wide zero =
+pub asked-tells : (text : List ℕ) (a : Asked) (lent : Areas) (o : Outcome) → AskedAs text a lent o → FourByteIds a → numberOf (o .answer) ≡ 0 → TellsOf text a (o .left .room)
+asked-tells text a lent o asked ids zero =
     let x = number-zero 24576 (length (lent .work)) text a lent o asked zero in
-    accepted-tells wide x (lines-mean (accepted-good text (x .policy) (x .read)) (x .right))
+    accepted-tells ids x (lines-mean (accepted-good text (x .policy) (x .read)) (x .right))
 
 -- The room after an ask for C whose number is below 2^32.
-pub coded-tells : (text : List ℕ) (a : Asked) (lent : Areas) (code : ℕ) (left : Areas) → CodedAs text a lent code left → Wide a → code / 4294967296 ≡ 0 → TellsOf text a (left .room)
-coded-tells text a lent code left so wide zero =
+pub coded-tells : (text : List ℕ) (a : Asked) (lent : Areas) (code : ℕ) (left : Areas) → CodedAs text a lent code left → FourByteIds a → code / 4294967296 ≡ 0 → TellsOf text a (left .room)
+coded-tells text a lent code left so ids zero =
     let (answer, asked, number, value) = c-parts text a lent code left so in
     let x = number-zero 49152 (length (lent .work) / 2) text a lent (record { answer = answer; left = left }) asked (sym number ∙ zero) in
-    accepted-tells wide x (lines-mean (accepted-good text (x .policy) (x .read)) (x .right))
+    accepted-tells ids x (lines-mean (accepted-good text (x .policy) (x .read)) (x .right))
 
 -- What pathcheck prints, where it begins with 80.
 pub printed-tells : (room : ℕ) (input out : List ℕ) → Printed room input out → typeOf (first out) ≡ 0x80 → TellsOf (textIn input) (askedIn input) out
 printed-tells room input out printed begins =
     let (P, read, right) = printed-lines room input out begins printed in
-    printed-so (asked-wide input) P read (lines-mean (accepted-good (textIn input) P read) right)
+    printed-so (asked-ids input) P read (lines-mean (accepted-good (textIn input) P read) right)
 
 -- The part of its output that a check says it wrote.
 pub checked-tells : (input output : List ℕ) (size : ℕ) (left : List ℕ) → CheckedAs input output size left → typeOf (first (take size left)) ≡ 0x80 → TellsOf (textIn input) (askedIn input) (take size left)

@@ -1,20 +1,55 @@
--- What is printed, where it begins with 80: the lines of an answer, of a text that is accepted.
+-- What is printed, where it begins with 80: the lines of an answer, of a text that is accepted; and the ids of a question line.
 -- Assumes nothing.
 use mathlib.Core.Path.{_≡_, refl, sym, ap, subst, _∙_}
 use mathlib.Core.Bool.{Bool, true, false, cond}
-use mathlib.Core.List.{List, [], _++_, append-nil}
-use Prim.Native.Nat.{ℕ, zero, suc}
+use mathlib.Core.List.{List, [], _∷_, _++_, append-nil}
+use Prim.Native.Nat.{ℕ, zero, suc, _-_, _<_}
 use native.Mathlib.Omega.{arith}
 use lib.Dec.{leb}
-use lib.ListN.{length, take, drop}
+use lib.ListN.{length, getD, take, drop}
 use lib.Seq.{take-append-seam}
-use Rattle.lines.specs.Line.{lineLength, goodLine, zeros, decoded, frameOf}
+use Rattle.lines.specs.Line.{zeros, lineLength, firstLine, goodLine, bytesOf, decoded, frameOf, lineOf, hexOf, digitOf, hexValue, pairValue}
+use Rattle.lines.proofs.Rooms.{getD-filled, getD-zeros}
+use Rattle.lines.proofs.Decoding.{bytes-small}
+use Rattle.store.specs.Layout.{two}
 use Rattle.gran.specs.Policy.{Policy}
-use Rattle.policy.specs.Frames.{typeOf}
+use Rattle.policy.specs.Frames.{number4, typeOf}
 use Rattle.policy.specs.Load.{Reading, refused, accepted, reading}
 use Rattle.ask.specs.Ask.{Asked, early, Lines, roomWith}
 use Rattle.question.specs.Question.{first, misses, askedIn, textIn, refusalLine, Prints, PrintsAfter, PrintsBehind, Printed, CheckedAs}
-use Rattle.meaning.proofs.Telling.{refusal-other}
+use Rattle.meaning.specs.Means.{FourByteIds}
+use Rattle.meaning.proofs.Back.{line-ends}
+
+-- ---- a refusal's line
+
+-- its first byte is 8f, where it is a line at all
+refusal-other : (number line : ℕ) (rest : List ℕ) → typeOf (first (refusalLine number line ++ rest)) ≡ 0x80 → ⊥
+unfolding decoded frameOf refusalLine lineOf hexOf bytesOf digitOf pairValue hexValue two
+refusal-other number line rest e =
+    let bytes : List ℕ = 0x8f ∷ number ∷ two line in
+    go (goodLine (lineOf bytes)) (rw (line-ends bytes rest, take-append-seam (lineOf bytes) rest) at e)
+  where
+    go : (good : Bool) → getD (cond good (bytesOf (lineOf (0x8f ∷ number ∷ two line))) [] ++ zeros (80 - length (cond good (bytesOf (lineOf (0x8f ∷ number ∷ two line))) []))) 0 0 ≡ 0x80 → ⊥
+    go true e = omega (arith, e)
+    go false e = omega (arith, rw (getD-zeros 80 0) at e)
+
+-- ---- the ids of a question line
+
+frame-small : (line : List ℕ) (i : ℕ) → getD (decoded line .bytes) i 0 < 256
+unfolding decoded frameOf
+frame-small line i = go (goodLine line) refl
+  where
+    go : (good : Bool) → goodLine line ≡ good → getD (cond good (bytesOf line) [] ++ zeros (80 - length (cond good (bytesOf line) []))) i 0 < 256
+    go true g = rw (getD-filled (bytesOf line) _ i) (bytes-small line g i)
+    go false g = rw (getD-zeros 80 i) (omega arith)
+
+pub asked-ids : (input : List ℕ) → FourByteIds (askedIn input)
+unfolding number4
+asked-ids input =
+    let b = frame-small (firstLine input) in
+    record { uid = omega (arith, b 2, b 3, b 4, b 5); gid = omega (arith, b 6, b 7, b 8, b 9) }
+
+-- ---- what is printed
 
 -- The text gives a policy, and these are the lines of an answer.
 abbrev pub Answering : List ℕ → Asked → List ℕ → Type 0

@@ -12,7 +12,7 @@ use borrow.Author.Tests.{ltb-true}
 use Rattle.paths.specs.Path.{isPath}
 use Rattle.paths.proofs.Bools.{left, right, either, parts₄, eqb-to}
 use Rattle.gran.specs.Lists.{All}
-use Rattle.gran.specs.Policy.{Policy, Entry, Allowed, SET-UID, SET-GID, EXEC}
+use Rattle.gran.specs.Policy.{Policy, Allowed, SET-UID, SET-GID, EXEC}
 use Rattle.gran.specs.Match.{pathAt, objectIn, objectsOf, objectPath, modesOf}
 use Rattle.gran.specs.Role.{allows}
 use Rattle.gran.specs.Access.{has, sees}
