@@ -12,7 +12,7 @@ use Rattle.policy.specs.Load.{Reading, refused, accepted, reading}
 use Rattle.ask.proofs.Small.{refused-within}
 use Rattle.ask.proofs.Unique.{lines-unique}
 use Rattle.ask.specs.declared.Answer.the-variants.{Answered, Short}
-use Rattle.ask.specs.Ask.{Asked, numberOf, valueOf, early, Lines, Areas, Outcome, answerWith, roomWith, Comes, ComesTo, NumbersOf, Numbers}
+use Rattle.ask.specs.Ask.{Asked, numberOf, valueOf, early, Lines, Areas, Outcome, answerWith, roomWith, Comes, ComesTo, NumberAndValueOf, NumberAndValue}
 
 -- ---- lines and a room
 
@@ -57,16 +57,16 @@ module _ (places work : ℕ) (text : List ℕ) (a : Asked) (lent : Areas) (o : O
   roomLeft q = q .left .room
 
   -- Number and value are those that 01 gives.
-  pub asked-numbers : Numbers (early (length text) (length (lent .store)) work a) text a (length (lent .room)) (number o) (value o)
+  pub asked-numbers : NumberAndValue (early (length text) (length (lent .store)) work a) text a (length (lent .room)) (number o) (value o)
   asked-numbers = go (early (length text) (length (lent .store)) work a) asked
     where
-      by-reading : (r : Reading) → Comes places r a lent o → NumbersOf r a (length (lent .room)) (number o) (value o)
+      by-reading : (r : Reading) → Comes places r a lent o → NumberAndValueOf r a (length (lent .room)) (number o) (value o)
       by-reading (refused n line) x = (ap number x, ap value x)
       by-reading (accepted P) (lines, right, x) =
           let told = numbers-of lines (lent .room) in
           (lines, right, ap number x ∙ told .0, ap value x ∙ told .1)
 
-      go : (first : ℕ) → ComesTo places first text a lent o → Numbers first text a (length (lent .room)) (number o) (value o)
+      go : (first : ℕ) → ComesTo places first text a lent o → NumberAndValue first text a (length (lent .room)) (number o) (value o)
       go zero x = by-reading (reading text) x
       go (suc n) x = (ap number x, ap value x)
 
@@ -102,10 +102,10 @@ module _ (places work : ℕ) (text : List ℕ) (a : Asked) (lent : Areas) (o : O
       go (suc n) x = ap roomLeft x
 
 -- One number and one value.
-pub numbers-unique : (first : ℕ) (text : List ℕ) (a : Asked) (room : ℕ) {m n v w : ℕ} → Numbers first text a room m v → Numbers first text a room n w → (m ≡ n) × (v ≡ w)
+pub numbers-unique : (first : ℕ) (text : List ℕ) (a : Asked) (room : ℕ) {m n v w : ℕ} → NumberAndValue first text a room m v → NumberAndValue first text a room n w → (m ≡ n) × (v ≡ w)
 numbers-unique zero text a room x y = go (reading text) x y
   where
-    go : (r : Reading) {m n v w : ℕ} → NumbersOf r a room m v → NumbersOf r a room n w → (m ≡ n) × (v ≡ w)
+    go : (r : Reading) {m n v w : ℕ} → NumberAndValueOf r a room m v → NumberAndValueOf r a room n w → (m ≡ n) × (v ≡ w)
     go (refused k line) x y = (x .0 ∙ sym (y .0), x .1 ∙ sym (y .1))
     go (accepted P) (ls, l, c, d) (ks, k, e, f) =
         let same = lines-unique l k in

@@ -135,14 +135,14 @@ AskedAs text a lent o = ComesTo 24576 (early (length text) (length (lent .store)
 -- ---- by 01's number and value
 
 -- What the number and the value of a text's answer may be, with a room of this length: the refusal and its line; 0 and the answer's length, or 17 and as many bytes needed.
-abbrev pub NumbersOf : Reading → Asked → ℕ → ℕ → ℕ → Type 0
-NumbersOf (refused n line) a room number value = (number ≡ n) × (value ≡ line)
-NumbersOf (accepted P) a room number value = (lines : List ℕ) × Lines P a lines × (number ≡ cond (leb (length lines) room) 0 17) × (value ≡ length lines)
+abbrev pub NumberAndValueOf : Reading → Asked → ℕ → ℕ → ℕ → Type 0
+NumberAndValueOf (refused n line) a room number value = (number ≡ n) × (value ≡ line)
+NumberAndValueOf (accepted P) a room number value = (lines : List ℕ) × Lines P a lines × (number ≡ cond (leb (length lines) room) 0 17) × (value ≡ length lines)
 
 -- The same after 1 to 6, which have no line.
-abbrev pub Numbers : ℕ → List ℕ → Asked → ℕ → ℕ → ℕ → Type 0
-Numbers zero text a room number value = NumbersOf (reading text) a room number value
-Numbers (suc n) text a room number value = (number ≡ suc n) × (value ≡ 0)
+abbrev pub NumberAndValue : ℕ → List ℕ → Asked → ℕ → ℕ → ℕ → Type 0
+NumberAndValue zero text a room number value = NumberAndValueOf (reading text) a room number value
+NumberAndValue (suc n) text a room number value = (number ≡ suc n) × (value ≡ 0)
 
 -- ---- for C
 

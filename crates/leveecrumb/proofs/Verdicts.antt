@@ -65,8 +65,8 @@ module _ (text : List ℕ) (a : Asked) (rows : List Step) (store : List ℕ) whe
     tells : answer ≡ telling (replayOf policy (questionOf a) (a .uid) (a .gid) (a .start) rows)
 
   -- What a text with this policy comes to.
-  comes : earlyFor text a store ≡ 0 → (P : Policy) → reading text ≡ accepted P → replaying text a rows store ≡ endedBy (accepted P) a rows store
-  comes e P p = ap (λ (k : ℕ). endedAfter k text a rows store) e ∙ ap (λ (x : Reading). endedBy x a rows store) p
+  pub comes-walked : earlyFor text a store ≡ 0 → (P : Policy) → reading text ≡ accepted P → replaying text a rows store ≡ endedBy (accepted P) a rows store
+  comes-walked e P p = ap (λ (k : ℕ). endedAfter k text a rows store) e ∙ ap (λ (x : Reading). endedBy x a rows store) p
 
   -- They were, where a verdict is given.
   walks : (answer .verdict ≡ 0 → ⊥) → Walks
@@ -75,7 +75,7 @@ module _ (text : List ℕ) (a : Asked) (rows : List Step) (store : List ℕ) whe
       by-reading : earlyFor text a store ≡ 0 → (x : Reading) → reading text ≡ x → (endedBy x a rows store .answer .verdict ≡ 0 → ⊥) → Walks
       by-reading e (refused n k) p ne = absurd (ne refl)
       by-reading e (accepted P) p ne =
-          record { policy = P; read = p; loaded = subst (λ (x : Ended). Loaded P (drop 16384 store) (x .store)) (sym (comes e P p)) (stands text a store e P p); tells = ap (λ (x : Ended). x .answer) (comes e P p) }
+          record { policy = P; read = p; loaded = subst (λ (x : Ended). Loaded P (drop 16384 store) (x .store)) (sym (comes-walked e P p)) (stands text a store e P p); tells = ap (λ (x : Ended). x .answer) (comes-walked e P p) }
 
       go : (e : ℕ) → earlyFor text a store ≡ e → (endedAfter e text a rows store .answer .verdict ≡ 0 → ⊥) → Walks
       go zero e ne = by-reading e (reading text) refl ne
@@ -179,7 +179,7 @@ module _ (text : List ℕ) (a : Asked) (P : Policy) (read : reading text ≡ acc
   own-lines store none lines (Lines.never opened u) = never opened
   own-lines store none lines (Lines.reached zs opened s) =
       let (file, holds) = own-steps-hold P (stands text a store none P read .good) (questionOf a) (a .start) (a .uid) (a .gid) zs (s .first .has) in
-      reached zs opened (ap (λ (x : Ended). x .answer .verdict) (comes text a (recordsOf P (startOf a) zs) store none P read) ∙ ap (λ (v : Verdict). telling v .verdict) holds)
+      reached zs opened (ap (λ (x : Ended). x .answer .verdict) (comes-walked text a (recordsOf P (startOf a) zs) store none P read) ∙ ap (λ (v : Verdict). telling v .verdict) holds)
 
   -- The steps that an ask shows, as records, hold for the same text and question, over any store that is long enough.
   pub own-hold : (lent : Areas) (o : Outcome) → AskedAs text a lent o → early (length text) (length (lent .store)) (length (lent .work)) a ≡ 0 → (store : List ℕ) → 16384 ≤ length store

@@ -18,7 +18,11 @@ use Rattle.policy.proofs.Accepted.{accepted-good}
 use Rattle.ask.specs.Ask.{Asked, numberOf, coded, early, startOf, questionOf, Lines, answerWith, Areas, Outcome, answering, Comes, ComesTo, AskedAs, CodedAs}
 use Rattle.ask.proofs.Small.{c-parts}
 use Rattle.ask.proofs.Numbers.{number-zero}
+use Rattle.replay.specs.declared.Verdict.{Verdict}
+use Rattle.leveecrumb.specs.Replaying.{Ended, telling, replaying}
+use Rattle.leveecrumb.proofs.Verdicts.{comes-walked}
 use Rattle.question.specs.Question.{first, misses, askedIn, textIn, refusalLine, Printed, CheckedAs}
+use Rattle.meaning.specs.Read.{saidIn}
 use Rattle.meaning.specs.Means.{Means, TellsOf, FourByteIds}
 use Rattle.meaning.proofs.Recipes.{never-few, shown-few, shown-short, shown-recipe}
 use Rattle.meaning.proofs.Telling.{accepted-tells, printed-so}
@@ -86,3 +90,9 @@ printed-tells room input out printed begins =
 -- The part of its output that a check says it wrote.
 pub checked-tells : (input output : List ℕ) (size : ℕ) (left : List ℕ) → CheckedAs input output size left → typeOf (first (take size left)) ≡ 0x80 → TellsOf (textIn input) (askedIn input) (take size left)
 checked-tells input output size left checked begins = printed-tells (length output) input (take size left) (checked-printed checked begins) begins
+
+-- The records that are read hold in a replay of the same text and question, over any store that is long enough.
+pub told-hold : (text : List ℕ) (a : Asked) (bytes store : List ℕ) → TellsOf text a bytes → saidIn bytes .verdict ≡ 1 → early (length text) (length store) 24576 a ≡ 0
+    → replaying text a (saidIn bytes .steps) store .answer .verdict ≡ 1
+told-hold text a bytes store x reached none =
+    ap (λ (e : Ended). e .answer .verdict) (comes-walked text a (saidIn bytes .steps) store none (x .policy) (x .read)) ∙ ap (λ (v : Verdict). telling v .verdict) (x .tells .reached reached .holds)
