@@ -73,7 +73,7 @@ module _ (P : Policy) (good : Good P) where
 -- ---- reached, never, fewest
 
 -- File systems that have every path.
-abbrev everything : Real.Files
+abbrev pub everything : Real.Files
 everything i f = Unit
 
 there-everything : (fs : List ℕ → Type 0) → ((f : List ℕ) → fs f) → (a : Real.Act) → Real.There fs a
@@ -82,7 +82,7 @@ there-everything fs all (Real.setUid u) = tt
 there-everything fs all (Real.setGid g) = tt
 there-everything fs all (Real.exec f u g) = all f
 
-on-everything : (acts : List Real.Act) → Real.On everything acts
+pub on-everything : (acts : List Real.Act) → Real.On everything acts
 on-everything [] = tt
 on-everything (a ∷ rest) = (there-everything (everything 0) (λ f. tt) a, on-everything rest)
 

@@ -17,7 +17,7 @@ use Rattle.store.proofs.Reading.{two-number}
 use Rattle.policy.specs.Frames.{byteAt, number2}
 use Rattle.records.specs.declared.Step.{Step}
 use Rattle.records.specs.Record.{stepBytes, stepLines, summary}
-use Rattle.records.proofs.Bytes.{stepBytes-length, sizeOf, stepBytes-most}
+use Rattle.records.proofs.Bytes.{stepBytes-some, stepBytes-most}
 use Rattle.question.specs.Question.{first, behind}
 use Rattle.meaning.specs.Read.{Said, spelled, stepsIn, saidIn}
 use Rattle.meaning.proofs.Steps.{Narrow, bytes-all, step-bytes, step-again}
@@ -77,18 +77,8 @@ steps-again : (rows : List Step) (rest : List ℕ) → All Narrow rows → steps
 unfolding stepsIn
 steps-again [] rest all = refl
 steps-again (r ∷ rows) rest (narrow, all) =
-    let some : 1 ≤ length (stepBytes r) = rw (stepBytes-length r) (sizeOf-some (r .kind)) in
-    let line = first-lineOf (stepBytes r) (stepLines rows ++ rest) (step-bytes r narrow) some (omega (arith, stepBytes-most r)) in
+    let line = first-lineOf (stepBytes r) (stepLines rows ++ rest) (step-bytes r narrow) (stepBytes-some r) (omega (arith, stepBytes-most r)) in
     rw (append-assoc (lineOf (stepBytes r)) (stepLines rows) rest, line, step-again r narrow, behind-lineOf (stepBytes r) (stepLines rows ++ rest), steps-again rows rest all)
-  where
-    sizeOf-some : (kind : ℕ) → 1 ≤ sizeOf kind
-    sizeOf-some kind = go (eqb kind 0x81) (eqb kind 0x82) (eqb kind 0x83)
-      where
-        go : (s u g : Bool) → 1 ≤ cond s 2 (cond u 5 (cond g 5 11))
-        go true u g = omega arith
-        go false true g = omega arith
-        go false false true = omega arith
-        go false false false = omega arith
 
 -- ---- an answer
 

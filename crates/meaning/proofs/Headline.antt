@@ -1,7 +1,7 @@
 -- Demand 3, said of the answer that is given: what its lines mean for real steps on any file systems, and what the bytes tell that a caller has.
 -- Assumes nothing.
 use mathlib.Core.Path.{_≡_, sym, ap, _∙_}
-use mathlib.Core.Logic.{_⊎_, inl, inr}
+use mathlib.Core.Logic.{_⊎_, inl, inr, ⊎-elim, _↔_}
 use mathlib.Core.Bool.{Bool, true, false, cond}
 use mathlib.Core.List.{List}
 use Prim.Native.Nat.{ℕ, _/_}
@@ -9,6 +9,8 @@ use lib.Dec.{leb}
 use lib.ListN.{length, take}
 use Rattle.gran.specs.Policy.{Policy}
 use Rattle.gran.specs.Good.{Good}
+use Rattle.gran.specs.Reach.{Reachable}
+use Rattle.gran.proofs.Run.{everything, on-everything}
 use Rattle.gran.proofs.Answers.{never-real}
 use Rattle.records.specs.Record.{recordsOf}
 use Rattle.records.proofs.Bytes.{recordsOf-length}
@@ -19,6 +21,7 @@ use Rattle.ask.specs.Ask.{Asked, numberOf, coded, early, startOf, questionOf, L
 use Rattle.ask.proofs.Small.{c-parts}
 use Rattle.ask.proofs.Numbers.{number-zero}
 use Rattle.replay.specs.declared.Verdict.{Verdict}
+use Rattle.replay.specs.Replay.{actsSaid}
 use Rattle.leveecrumb.specs.Replaying.{Ended, telling, replaying}
 use Rattle.leveecrumb.proofs.Verdicts.{comes-walked}
 use Rattle.question.specs.Question.{first, misses, askedIn, textIn, refusalLine, Printed, CheckedAs}
@@ -96,3 +99,10 @@ pub told-hold : (text : List ℕ) (a : Asked) (bytes store : List ℕ) → Tells
     → replaying text a (saidIn bytes .steps) store .answer .verdict ≡ 1
 told-hold text a bytes store x reached none =
     ap (λ (e : Ended). e .answer .verdict) (comes-walked text a (saidIn bytes .steps) store none (x .policy) (x .read)) ∙ ap (λ (v : Verdict). telling v .verdict) (x .tells .reached reached .holds)
+
+-- They say reached exactly where some run of real steps comes to the access, on some file systems.
+pub told-exactly : (text : List ℕ) (a : Asked) (bytes : List ℕ) (x : TellsOf text a bytes) → (saidIn bytes .verdict ≡ 1) ↔ ((n : ℕ) × Reachable (x .policy) (questionOf a) (startOf a) n)
+told-exactly text a bytes x = (
+  λ e. (length (saidIn bytes .steps), (everything, x .tells .reached e .reached everything (on-everything (actsSaid (x .policy) (saidIn bytes .steps))))),
+  λ r. ⊎-elim (λ e. absurd (x .tells .never e (r .1 .0) (r .0) (r .1 .1))) (λ e. e) (x .tells .verdict),
+)

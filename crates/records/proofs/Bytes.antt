@@ -58,17 +58,20 @@ module _ (r : Step) where
   pub stepLine-length : length (lineOf (stepBytes r)) ≡ 2 * sizeOf (r .kind) + 1
   stepLine-length = lineOf-length (stepBytes r) ∙ rw stepBytes-length
 
-sizeOf-most : (kind : ℕ) → sizeOf kind ≤ 11
-sizeOf-most kind = go (eqb kind 0x81) (eqb kind 0x82) (eqb kind 0x83)
+sizeOf-within : (kind : ℕ) → (1 ≤ sizeOf kind) × (sizeOf kind ≤ 11)
+sizeOf-within kind = go (eqb kind 0x81) (eqb kind 0x82) (eqb kind 0x83)
   where
-    go : (s u g : Bool) → cond s 2 (cond u 5 (cond g 5 11)) ≤ 11
-    go true u g = omega arith
-    go false true g = omega arith
-    go false false true = omega arith
-    go false false false = omega arith
+    go : (s u g : Bool) → (1 ≤ cond s 2 (cond u 5 (cond g 5 11))) × (cond s 2 (cond u 5 (cond g 5 11)) ≤ 11)
+    go true u g = (omega arith, omega arith)
+    go false true g = (omega arith, omega arith)
+    go false false true = (omega arith, omega arith)
+    go false false false = (omega arith, omega arith)
+
+pub stepBytes-some : (r : Step) → 1 ≤ length (stepBytes r)
+stepBytes-some r = rw (stepBytes-length r) (sizeOf-within (r .kind) .0)
 
 pub stepBytes-most : (r : Step) → length (stepBytes r) ≤ 11
-stepBytes-most r = rw (stepBytes-length r) (sizeOf-most (r .kind))
+stepBytes-most r = rw (stepBytes-length r) (sizeOf-within (r .kind) .1)
 
 pub stepLine-most : (r : Step) → length (lineOf (stepBytes r)) ≤ 23
 stepLine-most r = omega (arith, lineOf-length (stepBytes r), stepBytes-most r)

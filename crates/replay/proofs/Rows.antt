@@ -14,7 +14,7 @@ use Rattle.gran.specs.Lists.{none}
 use Rattle.gran.specs.Policy.{Policy}
 use Rattle.gran.specs.Match.{pathAt, objectIn}
 use Rattle.gran.specs.Good.{Good}
-use Rattle.gran.specs.Real.{State, Act, setSpecial, setUid, setGid, exec, entry, may, next, run, last, access, Files, On, start, started, fileOf, stateOf, taken, userSet, groupSet, executing}
+use Rattle.gran.specs.Real.{State, setSpecial, setUid, setGid, exec, entry, may, next, run, last, access, Files, On, start, started, fileOf, stateOf, taken, userSet, groupSet, executing}
 use Rattle.gran.specs.Reach.{Question, Reached}
 use Rattle.gran.specs.declared.Process.{Process}
 use Rattle.gran.proofs.Processes.{started-is, taken-is, userSet-is, groupSet-is, executing-is}
