@@ -19,7 +19,7 @@ use Rattle.records.specs.declared.Step.{Step}
 use Rattle.records.specs.Record.{stepBytes, stepLines, summary}
 use Rattle.records.proofs.Bytes.{stepBytes-some, stepBytes-most}
 use Rattle.question.specs.Question.{first, behind}
-use Rattle.meaning.specs.Read.{Said, spelled, stepsIn, saidIn}
+use Rattle.meaning.specs.Read.{Said, answerLines, stepsSaid, saidIn}
 use Rattle.meaning.proofs.Steps.{Narrow, bytes-all, step-bytes, step-again}
 
 -- ---- a line
@@ -73,8 +73,8 @@ module _ (verdict opened steps : ℕ) (rest : List ℕ) (v : verdict < 256) wher
 
 -- ---- the steps
 
-steps-again : (rows : List Step) (rest : List ℕ) → All Narrow rows → stepsIn (length rows) (stepLines rows ++ rest) ≡ rows
-unfolding stepsIn
+steps-again : (rows : List Step) (rest : List ℕ) → All Narrow rows → stepsSaid (length rows) (stepLines rows ++ rest) ≡ rows
+unfolding stepsSaid
 steps-again [] rest all = refl
 steps-again (r ∷ rows) rest (narrow, all) =
     let line = first-lineOf (stepBytes r) (stepLines rows ++ rest) (step-bytes r narrow) (stepBytes-some r) (omega (arith, stepBytes-most r)) in
@@ -95,7 +95,7 @@ said-is : (x : Said) {verdict opened : ℕ} {steps : List Step} → verdict ≡ 
 said-is x v o s = rw (v, o, s)
 
 -- Reading gives back what was written, whatever stands behind it.
-pub said-again : (x : Said) → Fitting x → (rest : List ℕ) → saidIn (spelled x ++ rest) ≡ x
+pub said-again : (x : Said) → Fitting x → (rest : List ℕ) → saidIn (answerLines x ++ rest) ≡ x
 said-again x fit rest =
     let n = length (x .steps) in
     let tail : List ℕ = stepLines (x .steps) ++ rest in

@@ -18,7 +18,7 @@ use Rattle.records.specs.declared.Step.{Step}
 use Rattle.records.specs.Record.{stepBytes}
 use Rattle.records.proofs.Bytes.{special-bytes, user-bytes, group-bytes, exec-bytes}
 use Rattle.replay.specs.Replay.{stepOf, plainly}
-use Rattle.meaning.specs.Read.{stepIn}
+use Rattle.meaning.specs.Read.{stepSaid}
 
 -- ---- a record, kind by kind
 
@@ -90,20 +90,20 @@ four-again n h = go _ _ _ _ (four-number n h)
     go a b c d e = omega (arith, e)
 
 module _ (r : Step) (n : Narrow r) where
-  special-again : r .kind ≡ 0x81 → stepIn (frameOf (stepBytes r)) ≡ stepOf 0x81 (r .role) 0 0 0 0
-  unfolding stepIn frameOf
+  special-again : r .kind ≡ 0x81 → stepSaid (frameOf (stepBytes r)) ≡ stepOf 0x81 (r .role) 0 0 0 0
+  unfolding stepSaid frameOf
   special-again k = rw (special-bytes r k, k)
 
-  user-again : r .kind ≡ 0x82 → stepIn (frameOf (stepBytes r)) ≡ stepOf 0x82 0 (r .uid) 0 0 0
-  unfolding stepIn frameOf number4 four
+  user-again : r .kind ≡ 0x82 → stepSaid (frameOf (stepBytes r)) ≡ stepOf 0x82 0 (r .uid) 0 0 0
+  unfolding stepSaid frameOf number4 four
   user-again k = rw (user-bytes r k, k) (ap (λ (u : ℕ). stepOf 0x82 0 u 0 0 0) (four-again (r .uid) (n .uid)))
 
-  group-again : r .kind ≡ 0x83 → stepIn (frameOf (stepBytes r)) ≡ stepOf 0x83 0 0 (r .gid) 0 0
-  unfolding stepIn frameOf number4 four
+  group-again : r .kind ≡ 0x83 → stepSaid (frameOf (stepBytes r)) ≡ stepOf 0x83 0 0 (r .gid) 0 0
+  unfolding stepSaid frameOf number4 four
   group-again k = rw (group-bytes r k, k) (ap (λ (g : ℕ). stepOf 0x83 0 0 g 0 0) (four-again (r .gid) (n .gid)))
 
-  exec-again : r .kind ≡ 0x84 → stepIn (frameOf (stepBytes r)) ≡ stepOf 0x84 0 (r .uid) (r .gid) (r .object) (r .file)
-  unfolding stepIn frameOf number4 four
+  exec-again : r .kind ≡ 0x84 → stepSaid (frameOf (stepBytes r)) ≡ stepOf 0x84 0 (r .uid) (r .gid) (r .object) (r .file)
+  unfolding stepSaid frameOf number4 four
   exec-again k =
       rw (exec-bytes r (λ e. omega (arith, k, e)) (λ e. omega (arith, k, e)) (λ e. omega (arith, k, e)), k)
       (go (four-again (r .uid) (n .uid)) (four-again (r .gid) (n .gid)))
@@ -111,10 +111,10 @@ module _ (r : Step) (n : Narrow r) where
       go : {u g : ℕ} → u ≡ r .uid → g ≡ r .gid → stepOf 0x84 0 u g (r .object) (r .file) ≡ stepOf 0x84 0 (r .uid) (r .gid) (r .object) (r .file)
       go d e = rw (d, e)
 
-  pub step-again : stepIn (frameOf (stepBytes r)) ≡ r
+  pub step-again : stepSaid (frameOf (stepBytes r)) ≡ r
   step-again = go (plain-kinds r (n .plain))
     where
-      go : Plain r → stepIn (frameOf (stepBytes r)) ≡ r
+      go : Plain r → stepSaid (frameOf (stepBytes r)) ≡ r
       go (special k u g o f) = special-again k ∙ step-is r (sym k) refl (sym u) (sym g) (sym o) (sym f)
       go (user k s g o f) = user-again k ∙ step-is r (sym k) (sym s) refl (sym g) (sym o) (sym f)
       go (group k s u o f) = group-again k ∙ step-is r (sym k) (sym s) (sym u) refl (sym o) (sym f)

@@ -17,7 +17,7 @@ use Rattle.policy.proofs.Accepted.{accepted-good}
 use Rattle.ask.specs.Ask.{Asked, questionOf, Areas, Outcome}
 use Rattle.ask.proofs.Numbers.{Accepted}
 use Rattle.replay.proofs.Rows.{holds-steps}
-use Rattle.meaning.specs.Read.{Said, spelled, saidIn}
+use Rattle.meaning.specs.Read.{Said, answerLines, saidIn}
 use Rattle.meaning.specs.Means.{Recipe, Means, Tells, TellsOf, FourByteIds}
 use Rattle.meaning.proofs.Steps.{Narrow}
 use Rattle.meaning.proofs.Back.{said-again}
@@ -37,7 +37,7 @@ means-tell good ids rest (Means.never opened few no-run) =
 means-tell {P} {a} good ids rest (Means.reached rows opened few short recipe) =
     let said : Said = record { verdict = 1; opened = opened; steps = rows } in
     let again = said-again said (record { verdict = omega arith; opened = omega arith; count = omega arith; steps = recipe-narrow P good a ids rows recipe }) rest in
-    let v : saidIn (spelled said ++ rest) .verdict ≡ 1 = ap (λ (x : Said). x .verdict) again in
+    let v : saidIn (answerLines said ++ rest) .verdict ≡ 1 = ap (λ (x : Said). x .verdict) again in
     record { verdict = inr v; never = λ e. absurd (omega (arith, v, e)); reached = λ e. subst (λ (x : Said). Recipe P a (x .steps)) (sym again) recipe }
 
 -- an accepted ask whose lines mean so
