@@ -9,20 +9,20 @@ use lib.Dec.{leb}
 use lib.ListN.{length, drop}
 use Rattle.gran.specs.Policy.{Policy}
 use Rattle.policy.specs.Load.{Reading, refused, accepted, reading}
-use Rattle.ask.proofs.Small.{refused-within}
+use Rattle.ask.proofs.Small.{refused-within, value-length}
 use Rattle.ask.proofs.Unique.{lines-unique}
 use Rattle.ask.specs.declared.Answer.the-variants.{Answered, Short}
 use Rattle.ask.specs.Ask.{Asked, numberOf, valueOf, early, Lines, Areas, Outcome, answerWith, roomWith, Comes, ComesTo, NumberAndValueOf, NumberAndValue}
 
 -- ---- lines and a room
 
-numbers-of : (lines room : List ℕ) → (numberOf (answerWith lines room) ≡ cond (leb (length lines) (length room)) 0 17) × (valueOf (answerWith lines room) ≡ length lines)
+number-fits : (lines room : List ℕ) → numberOf (answerWith lines room) ≡ cond (leb (length lines) (length room)) 0 17
 unfolding answerWith
-numbers-of lines room = go (leb (length lines) (length room))
+number-fits lines room = go (leb (length lines) (length room))
   where
-    go : (fits : Bool) → (numberOf (cond fits (Answered (length lines)) (Short (length lines))) ≡ cond fits 0 17) × (valueOf (cond fits (Answered (length lines)) (Short (length lines))) ≡ length lines)
-    go true = (refl, refl)
-    go false = (refl, refl)
+    go : (fits : Bool) → numberOf (cond fits (Answered (length lines)) (Short (length lines))) ≡ cond fits 0 17
+    go true = refl
+    go false = refl
 
 -- what 0, and another number, say of the room
 room-of : (lines room : List ℕ) → (numberOf (answerWith lines room) ≡ 0 → roomWith lines room ≡ lines ++ drop (length lines) room) × ((numberOf (answerWith lines room) ≡ 0 → ⊥) → roomWith lines room ≡ room)
@@ -62,9 +62,7 @@ module _ (places work : ℕ) (text : List ℕ) (a : Asked) (lent : Areas) (o : O
     where
       by-reading : (r : Reading) → Comes places r a lent o → NumberAndValueOf r a (length (lent .room)) (number o) (value o)
       by-reading (refused n line) x = (ap number x, ap value x)
-      by-reading (accepted P) (lines, right, x) =
-          let told = numbers-of lines (lent .room) in
-          (lines, right, ap number x ∙ told .0, ap value x ∙ told .1)
+      by-reading (accepted P) (lines, right, x) = (lines, right, ap number x ∙ number-fits lines (lent .room), ap value x ∙ value-length lines (lent .room))
 
       go : (first : ℕ) → ComesTo places first text a lent o → NumberAndValue first text a (length (lent .room)) (number o) (value o)
       go zero x = by-reading (reading text) x
@@ -81,7 +79,7 @@ module _ (places work : ℕ) (text : List ℕ) (a : Asked) (lent : Areas) (o : O
         read = e;
         lines = lines;
         right = right;
-        size = ap value x ∙ numbers-of lines (lent .room) .1;
+        size = ap value x ∙ value-length lines (lent .room);
         room = ap roomLeft x ∙ room-of lines (lent .room) .0 (sym (ap number x) ∙ z);
       }
 

@@ -88,7 +88,7 @@ lines-most {P} {a} good (reached zs opened s) =
     rw (length-append (summary 1 opened (length zs)) (stepLines records))
     (omega (arith, summary-length 1 opened (length zs), stepLines-most records, recordsOf-length P (startOf a) zs))
 
-value-length : (lines room : List ℕ) → valueOf (answerWith lines room) ≡ length lines
+pub value-length : (lines room : List ℕ) → valueOf (answerWith lines room) ≡ length lines
 unfolding answerWith
 value-length lines room = go (leb (length lines) (length room))
   where

@@ -2,10 +2,8 @@
 -- Assumes nothing.
 use mathlib.Core.Path.{_≡_, sym, ap, _∙_}
 use mathlib.Core.Logic.{_⊎_, inl, inr, ⊎-elim, _↔_}
-use mathlib.Core.Bool.{Bool, true, false, cond}
 use mathlib.Core.List.{List}
 use Prim.Native.Nat.{ℕ, _/_}
-use lib.Dec.{leb}
 use lib.ListN.{length, take}
 use Rattle.gran.specs.Policy.{Policy}
 use Rattle.gran.specs.Good.{Good}
@@ -29,7 +27,7 @@ use Rattle.meaning.specs.Read.{saidIn}
 use Rattle.meaning.specs.Means.{Means, TellsOf, FourByteIds}
 use Rattle.meaning.proofs.Recipes.{never-few, shown-few, shown-short, shown-recipe}
 use Rattle.meaning.proofs.Telling.{accepted-tells, printed-so}
-use Rattle.meaning.proofs.Printing.{asked-ids, printed-lines, checked-printed}
+use Rattle.meaning.proofs.Printing.{asked-ids, prints-cases, printed-lines, checked-printed}
 
 -- ---- what the lines mean
 
@@ -59,14 +57,8 @@ coded-means text a lent code left (answer, e, asked) none P read =
 -- The same of what pathcheck prints, where no question line is missed: 17's line, or lines that mean so.
 pub printed-means : (room : ℕ) (input out : List ℕ) → Printed room input out → misses input ≡ 0 → early (length (textIn input)) 16384 24576 (askedIn input) ≡ 0
     → (P : Policy) → reading (textIn input) ≡ accepted P → (out ≡ refusalLine 17 0) ⊎ Means P (askedIn input) out
-printed-means room input out printed asks none P read = go (rw (asks, none, read) at printed)
-  where
-    go : (lines : List ℕ) × Lines P (askedIn input) lines × (out ≡ cond (leb (length lines) room) lines (refusalLine 17 0)) → (out ≡ refusalLine 17 0) ⊎ Means P (askedIn input) out
-    go (lines, right, e) = fits (leb (length lines) room) e
-      where
-        fits : (b : Bool) → out ≡ cond b lines (refusalLine 17 0) → (out ≡ refusalLine 17 0) ⊎ Means P (askedIn input) out
-        fits true e = inr (rw e (lines-mean (accepted-good (textIn input) P read) right))
-        fits false e = inl e
+printed-means room input out printed asks none P read =
+    ⊎-elim inl (λ right. inr (lines-mean (accepted-good (textIn input) P read) right)) (prints-cases room P (askedIn input) out (rw (asks, none, read) at printed))
 
 -- ---- what the bytes tell: the third and fourth digit are 00, and no run of real steps gets there on any file systems;
 -- or they are 01, and the records that the lines spell are real steps to the access, and no run with fewer gets there on any

@@ -1,6 +1,7 @@
 -- What is printed, where it begins with 80: the lines of an answer, of a text that is accepted; and the ids of a question line.
 -- Assumes nothing.
 use mathlib.Core.Path.{_≡_, refl, sym, ap, subst, _∙_}
+use mathlib.Core.Logic.{_⊎_, inl, inr, ⊎-elim}
 use mathlib.Core.Bool.{Bool, true, false, cond}
 use mathlib.Core.List.{List, [], _∷_, _++_, append-nil}
 use Prim.Native.Nat.{ℕ, zero, suc, _-_, _<_}
@@ -51,6 +52,14 @@ asked-ids input =
 
 -- ---- what is printed
 
+-- For an accepted text: 17's line, or the lines of an answer.
+pub prints-cases : (room : ℕ) (P : Policy) (a : Asked) (out : List ℕ) → Prints room (accepted P) a out → (out ≡ refusalLine 17 0) ⊎ Lines P a out
+prints-cases room P a out (lines, right, e) = go (leb (length lines) room) e
+  where
+    go : (fits : Bool) → out ≡ cond fits lines (refusalLine 17 0) → (out ≡ refusalLine 17 0) ⊎ Lines P a out
+    go true e = inr (subst (Lines P a) (sym e) right)
+    go false e = inl e
+
 -- The text gives a policy, and these are the lines of an answer.
 abbrev pub Answering : List ℕ → Asked → List ℕ → Type 0
 Answering text a out = (P : Policy) × (reading text ≡ accepted P) × Lines P a out
@@ -62,11 +71,7 @@ module _ (room : ℕ) (input out : List ℕ) (begins : typeOf (first out) ≡ 0x
   module _ (text : List ℕ) (a : Asked) where
     prints-lines : (r : Reading) → reading text ≡ r → Prints room r a out → Answering text a out
     prints-lines (refused n line) read e = absurd (no-refusal n line e)
-    prints-lines (accepted P) read (lines, right, e) = go (leb (length lines) room) e
-      where
-        go : (fits : Bool) → out ≡ cond fits lines (refusalLine 17 0) → Answering text a out
-        go true e = (P, read, subst (Lines P a) (sym e) right)
-        go false e = absurd (no-refusal 17 0 e)
+    prints-lines (accepted P) read p = ⊎-elim (λ e. absurd (no-refusal 17 0 e)) (λ l. (P, read, l)) (prints-cases room P a out p)
 
     after-lines : (n : ℕ) → PrintsAfter room n text a out → Answering text a out
     after-lines zero p = prints-lines (reading text) refl p

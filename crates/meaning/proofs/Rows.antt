@@ -110,7 +110,7 @@ module _ (P : Policy) (good : Good P) (begin : List ℕ) where
           file = omega (arith, ltb-true (r .file) (length (P .paths)) (left (ltb (r .file) (length (P .paths))) _ named), good .few-paths);
         }
 
-    pub step-narrow : Narrow r
+    step-narrow : Narrow r
     unfolding may
     step-narrow = go (plain-kinds r step-plain)
       where

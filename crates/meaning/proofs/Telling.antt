@@ -16,7 +16,7 @@ use Rattle.policy.specs.Load.{accepted, reading}
 use Rattle.policy.proofs.Accepted.{accepted-good}
 use Rattle.ask.specs.Ask.{Asked, questionOf, Areas, Outcome}
 use Rattle.ask.proofs.Numbers.{Accepted}
-use Rattle.replay.proofs.Rows.{holds-steps}
+use Rattle.replay.proofs.Rows.{holds-run}
 use Rattle.meaning.specs.Read.{Said, answerLines, saidIn}
 use Rattle.meaning.specs.Means.{Recipe, Means, Tells, TellsOf, FourByteIds}
 use Rattle.meaning.proofs.Steps.{Narrow}
@@ -26,7 +26,7 @@ use Rattle.meaning.proofs.Rows.{steps-narrow}
 recipe-narrow : (P : Policy) → Good P → (a : Asked) → FourByteIds a → (rows : List Step) → Recipe P a rows → All Narrow rows
 recipe-narrow P good a ids rows recipe =
     steps-narrow P good (a .start) (started (a .uid) (a .gid)) (record { known = inl refl; uid = ids .uid; gid = ids .gid }) rows
-    (holds-steps P good (a .start) (questionOf a) (started (a .uid) (a .gid)) 0 rows (recipe .file) (recipe .holds))
+    (holds-run P good (a .start) (questionOf a) (started (a .uid) (a .gid)) 0 rows (recipe .file) (recipe .holds) .steps)
 
 pub means-tell : {P : Policy} {a : Asked} {lines : List ℕ} → Good P → FourByteIds a → (rest : List ℕ) → Means P a lines → Tells P a (lines ++ rest)
 means-tell good ids rest (Means.never opened few no-run) =

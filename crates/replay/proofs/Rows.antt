@@ -70,8 +70,9 @@ module _ (P : Policy) (good : Good P) (begin : List ℕ) where
 
   -- ---- a row that holds
 
-  -- The acts of the row are a real run, as long as the row, with the access at its end; the number names its last file.
+  -- Each record is a real step, and the acts of the row are a real run, as long as the row, with the access at its end; the number names its last file.
   pub record Run (q : Question) (p : Process) (rows : List Step) (file : ℕ) : Type 0 where
+    pub steps : So (allSteps P begin p rows)
     pub runs : So (run P (stateOf P begin p) (actsSaid P rows))
     pub size : length (actsSaid P rows) ≡ length rows
     pub granted : So (access P (q .kind) (q .target) (last (stateOf P begin p) (actsSaid P rows)))
@@ -82,7 +83,7 @@ module _ (P : Policy) (good : Good P) (begin : List ℕ) where
   holds-run q p at [] file e = go (access P (q .kind) (q .target) (stateOf P begin p)) refl e
     where
       go : (b : Bool) → access P (q .kind) (q .target) (stateOf P begin p) ≡ b → cond b (Holds (p .file)) Denied ≡ Holds file → Run q p [] file
-      go true t e = let same : p .file ≡ file = cc in record { runs = refl; size = refl; granted = t; ends = ap (fileOf P begin) same }
+      go true t e = let same : p .file ≡ file = cc in record { steps = refl; runs = refl; size = refl; granted = t; ends = ap (fileOf P begin) same }
       go false t e = let z : _≡_ {A = ℕ} 0 1 = cc in absurd (omega arith)
   holds-run q p at (r ∷ rs) file e = go (decide (isStep P (stateOf P begin p) r)) e (holds-run q (after p r) (at + 1) rs file)
     where
@@ -93,6 +94,7 @@ module _ (P : Policy) (good : Good P) (begin : List ℕ) where
       cons t ih =
           let same : stateOf P begin (after p r) ≡ next σ (actOf P r) = after-is p r t in
           record {
+            steps = both t (ih .steps);
             runs = both (step-may p r t) (rw same at (ih .runs));
             size = ap suc (ih .size);
             granted = rw same at (ih .granted);
@@ -102,20 +104,6 @@ module _ (P : Policy) (good : Good P) (begin : List ℕ) where
       go : So (isStep P σ r) ⊎ (isStep P σ r ≡ false) → cond (isStep P σ r) (follow P q begin (after p r) (at + 1) rs) (NoStep at) ≡ Holds file
           → (follow P q begin (after p r) (at + 1) rs ≡ Holds file → Run q (after p r) rs file) → Run q p (r ∷ rs) file
       go (inl t) e ih = cons t (ih (rw t at e))
-      go (inr t) e ih = let d : NoStep at ≡ Holds file = rw t at e in let z : _≡_ {A = ℕ} 0 1 = cc in absurd (omega arith)
-
-  -- Each of its records is a real step.
-  pub holds-steps : (q : Question) (p : Process) (at : ℕ) (rows : List Step) (file : ℕ) → follow P q begin p at rows ≡ Holds file → So (allSteps P begin p rows)
-  unfolding follow
-  holds-steps q p at [] file e = refl
-  holds-steps q p at (r ∷ rs) file e = go (decide (isStep P (stateOf P begin p) r)) e (holds-steps q (after p r) (at + 1) rs file)
-    where
-      σ : State
-      σ = stateOf P begin p
-
-      go : So (isStep P σ r) ⊎ (isStep P σ r ≡ false) → cond (isStep P σ r) (follow P q begin (after p r) (at + 1) rs) (NoStep at) ≡ Holds file
-          → (follow P q begin (after p r) (at + 1) rs ≡ Holds file → So (allSteps P begin (after p r) rs)) → So (isStep P σ r && allSteps P begin (after p r) rs)
-      go (inl t) e ih = both t (ih (rw t at e))
       go (inr t) e ih = let d : NoStep at ≡ Holds file = rw t at e in let z : _≡_ {A = ℕ} 0 1 = cc in absurd (omega arith)
 
   -- From a start it reaches the access, on every file system that has the named files.
