@@ -133,7 +133,7 @@ def main():
             open(path, "w").write(to)
     for path in sorted(glob.glob("crates/*/src/**/*.rt", recursive=True)):
         text = open(path).read()
-        to = spelled(text, new, True)
+        to = spelled(text, {n: t for n, t in new.items() if n not in LEMMAS}, True)
         if to != text:
             open(path, "w").write(to)
     print(len(new), "names")

@@ -1,5 +1,7 @@
 // The ask: the refusals that come before the text is read, and an answer as numbers. Rests on all below.
 // What a reader must believe stands in specs/Ask.antt: `AskedAs`; `number_of`, `value_of` and `coded`; `early`.
+#![tactic(auto)]
+
 ghost use Rattle.std.specs.Prelude.{◌≡◌, false, ◌&&◌, ◌||◌, eqb};
 ghost use Rattle.paths.specs.Path.{good_path};
 ghost use Rattle.gran.specs.Policy.{no_id};
@@ -18,7 +20,7 @@ pub const WORK: usize = 24576;
 const LARGEST: usize = 4294967295;
 
 // What an ask answers.
-#[derive(Drop)]
+#[derive(Clone, Copy)]
 pub enum Answer {
     // The answer's length.
     Answered(usize),

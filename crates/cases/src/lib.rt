@@ -1,10 +1,12 @@
 // A row of cases in one input, for programs that run a stored table: each stands behind its length, 4 bytes, big-endian.
 // Rests on nothing. What a reader must believe stands in specs/Case.antt: `next_case`.
+#![tactic(auto)]
+
 ghost use Rattle.std.specs.Prelude.{◌≡◌, ◌+◌, ◌≤◌, ◌<◌, length};
 ghost use Rattle.cases.specs.Case.{size_at, next_case};
 
 // The case at a place: where it begins and ends; or none, where no whole case is left.
-#[derive(Drop)]
+#[derive(Clone, Copy)]
 pub enum Found {
     Case(usize, usize),
     Nothing,

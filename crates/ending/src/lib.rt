@@ -1,5 +1,7 @@
 // What is tested after the last line, refusals 15 and 16, and the header that is written where neither is given.
 // Rests on `rows`, `gran`, `store`, `writing`, `policy` and `judge`. What a reader must believe stands in specs/End.antt: `end_refusal`, `Settled`.
+#![tactic(auto)]
+
 ghost use Rattle.std.specs.Prelude.{◌≡◌, List, ℕ, ◌≤◌, ◌<◌, eqb, ltb, length, get_or};
 ghost use Rattle.gran.specs.Lists.{any, member, numbers};
 ghost use Rattle.gran.specs.Policy.{Policy};

@@ -1,6 +1,8 @@
 // The fields of the store: one small reader for each, for any bytes. Rests on `store` and what that rests on.
 // What a reader must believe stands in specs/Fields.antt. Where the store holds a policy, each reading is that policy's
 // field: proofs/Header.antt, Roles.antt, Paths.antt and Entries.antt, and Again.antt for the whole policy.
+#![tactic(auto)]
+
 ghost use Rattle.std.specs.Prelude.{◌≡◌, ◌+◌};
 ghost use Rattle.fields.specs.Fields.{byte_at, word_at, long_at, role_count, path_count, entry_count, user_count, group_count, special_count, subject_count, move_count, moves_place, role_kind, role_id, part_of, part_place, path_size, path_in, path_place, Handed, entry_subject, entry_role, entry_caps, user_mode, group_mode, first_object, object_count, first_id, uid_count, gid_count, path_from, object_path_at, object_modes_at, move_role, move_special, uid_at, gid_at};
 
@@ -158,7 +160,7 @@ pub fn role_id(store: &[u8], r: u8) -> u32
 
 // The part of the store that begins in the pool at `place`, or an empty one where that runs past the end.
 fn pool_part(store: &[u8], place: u16, size: u8) -> &[u8]
-    ensures { Handed store.entry.ptr (part_place store.now (2948 + place) size) (part_of store.now (2948 + place) size) result.ref_ptr result.now }
+    ensures { Handed store.entry.ref_ptr (part_place store.now (2948 + place) size) (part_of store.now (2948 + place) size) result.ref_ptr result.now }
 {
     let start = POOL + (place as usize);
     let end = start + (size as usize);
@@ -178,7 +180,7 @@ pub fn path_size(store: &[u8], n: u8) -> u8
 
 // The bytes of path `n`, or an empty part of the store where there is no such path.
 pub fn path(store: &[u8], n: u8) -> &[u8]
-    ensures { Handed store.entry.ptr (path_place store.now n) (path_in store.now n) result.ref_ptr result.now }
+    ensures { Handed store.entry.ref_ptr (path_place store.now n) (path_in store.now n) result.ref_ptr result.now }
 {
     let at = PLACES + 3 * (n as usize);
     if store.len() < at + 3 {

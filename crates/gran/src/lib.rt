@@ -1,6 +1,8 @@
 // The model of 001 as document 01 decides it: a policy, real and abstract steps, access, runs, and the theorems that link them.
 // Rests on `paths`. A reader must believe all of specs/, which goes by 01's headings; proofs/ holds the theorems.
 // The code here is the model's own: the bits and the small rules, a process with its real steps, which later crates call, and the abstract state with its steps.
+#![tactic(auto)]
+
 ghost use Rattle.std.specs.Prelude.{◌≡◌, ◌*◌, ◌<◌, ltb};
 ghost use Rattle.gran.specs.Policy.{EXEC, APPEND, SET_UID, SET_GID};
 ghost use Rattle.gran.specs.Access.{has, sees, grant};
@@ -24,7 +26,7 @@ fn has_bit(bits: u8, bit: u8) -> bool
 }
 
 // The modes of an object.
-#[derive(Drop)]
+#[derive(Clone, Copy)]
 pub struct Modes {
     pub bits: u8,
 }
@@ -76,7 +78,7 @@ impl Modes {
 }
 
 // The capabilities of an entry.
-#[derive(Drop)]
+#[derive(Clone, Copy)]
 pub struct Caps {
     pub bits: u8,
 }
@@ -141,7 +143,7 @@ pub fn exec_may(kept: bool, allowed: bool) -> bool
 }
 
 // An abstract state: special, user and group role, or none, and a path of S.
-#[derive(Drop)]
+#[derive(Clone, Copy)]
 pub struct State {
     pub special: u8,
     pub user: u8,
@@ -197,7 +199,7 @@ impl State {
 }
 
 // A real state as code holds it: special role or none, UID, GID, and the file by its path number, none for the start's own path.
-#[derive(Drop)]
+#[derive(Clone, Copy)]
 pub struct Process {
     pub special: u8,
     pub uid: u32,

@@ -1,5 +1,7 @@
 // Roles and ids in a loaded store: the role of an id, the special roles that a role may take, the ids that an entry allows. Rests on `lookup` and what that rests on.
 // What a reader must believe stands in gran's specs/; specs/Ids.antt says what the loops find.
+#![tactic(auto)]
+
 ghost use Rattle.std.specs.Prelude.{◌≡◌, List, ℕ, ◌≤◌, ◌<◌, length};
 ghost use Rattle.gran.specs.Policy.{Policy, USER, GROUP};
 ghost use Rattle.gran.specs.Lists.{none, member};

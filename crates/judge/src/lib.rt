@@ -1,6 +1,8 @@
 // Judges a frame by the policy so far, which lies in the store: refusals 8 to 13.
 // Rests on `paths`, `lines`, `rows`, `gran`, `store` and `policy`. What a reader must believe stands in specs/Judge.antt: `Answers`; and in
 // specs/Noted.antt: `Noted`.
+#![tactic(auto)]
+
 ghost use Rattle.std.specs.Prelude.{◌≡◌, List, ℕ, ◌≤◌, length};
 ghost use Rattle.gran.specs.Policy.{Policy};
 ghost use Rattle.store.specs.Held.{Bounded, Holds};

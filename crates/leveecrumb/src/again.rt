@@ -9,7 +9,7 @@ use replay::Verdict;
 // How a replay ends: the refusal, 0 for none, and its line; the verdict, 0 under a refusal, 1 holds, 2 a record is no real step, 3 the access is not
 // granted at the end; the last file's path number, 255 for none and unless it holds; the first record that is no real step, else 0.
 #[repr(C)]
-#[derive(Drop)]
+#[derive(Clone, Copy)]
 pub struct Replayed {
     pub number: u8,
     pub verdict: u8,
@@ -29,7 +29,7 @@ impl Replayed {
 }
 
 // A replay before its first record: the refusal, 0 for none, and its line; how many records are to be walked.
-#[derive(Drop)]
+#[derive(Clone, Copy)]
 struct Opened {
     number: u8,
     line: usize,

@@ -93,7 +93,7 @@ pub extern "C" fn leveecrumb_ask(
     target: &[u8],
     kind: u8,
 ) -> u64
-    ensures { CodedAs text.now (record { uid = uid; gid = gid; start = start.now; target = target.now; kind = kind }) (record { store = store.entry.now; work = work.old; room = room.old }) result (record { store = store.exit.now; work = work.new; room = room.new }) }
+    ensures { CodedAs text.now (record { uid = uid; gid = gid; start = start.now; target = target.now; kind = kind }) (record { store = store.old; work = work.old; room = room.old }) result (record { store = store.new; work = work.new; room = room.new }) }
 {
     let o = crate::loaded(text, store, work.len() / 2, uid, gid, start, target, kind);
     let number = o.number;

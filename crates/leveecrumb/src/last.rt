@@ -9,7 +9,7 @@ const POOL: usize = 2948;
 
 // A part of a lent area: which area, where it begins and how long it is.
 #[repr(C)]
-#[derive(Drop)]
+#[derive(Clone, Copy)]
 pub struct Part {
     pub stored: u8,
     pub from: usize,

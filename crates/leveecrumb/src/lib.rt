@@ -1,5 +1,7 @@
 // The door: the ask, the replay of a text and the last file, for every value of each of their arguments. Rests on all crates below.
 // What a reader must believe of the ask stands in `ask`'s specs/Ask.antt: `AskedAs`; for C, `CodedAs`; of the other two, in specs/Replaying.antt and specs/Parts.antt.
+#![tactic(auto)]
+
 ghost use Rattle.ask.specs.Ask.{AskedAs};
 ghost use Rattle.leveecrumb.specs.Opening.{LoadsAs};
 
@@ -46,7 +48,7 @@ pub fn ask(
     target: &[u8],
     kind: u8,
 ) -> Answer
-    ensures { AskedAs text.now (record { uid = uid; gid = gid; start = start.now; target = target.now; kind = kind }) (record { store = store.entry.now; work = work.old; room = room.old }) (record { answer = result; left = record { store = store.exit.now; work = work.new; room = room.new } }) }
+    ensures { AskedAs text.now (record { uid = uid; gid = gid; start = start.now; target = target.now; kind = kind }) (record { store = store.old; work = work.old; room = room.old }) (record { answer = result; left = record { store = store.new; work = work.new; room = room.new } }) }
 {
     let o = loaded(text, store, work.len(), uid, gid, start, target, kind);
     let number = o.number;

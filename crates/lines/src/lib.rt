@@ -1,6 +1,8 @@
 // Hexadecimal lines: a line's form, the bytes that it stands for, and bytes written as a line. Rests on nothing.
 // What a reader must believe stands in specs/Line.antt: `line_length`, `first_line` and `lines_of`; `good_line`, `bytes_of` and `decoded`;
 // `line_of` and `encoded`; and what these name.
+#![tactic(auto)]
+
 ghost use Rattle.std.specs.Prelude.{◌≡◌, cond, [], ◌<◌, min, eqb, length, get_or};
 ghost use Rattle.lines.specs.Line.{Digits, pair_value, line_length, first_line, zeros, frame_of, decoded, DecodedInto, digit_of, EncodedAs};
 
@@ -10,7 +12,7 @@ const LF: u8 = 10;
 const LONGEST: usize = 161;
 
 // The bytes of a good line, zero filled, and how many they are; size 0 for any other line.
-#[derive(Drop)]
+#[derive(Clone, Copy)]
 pub struct Frame {
     pub size: usize,
     pub bytes: [u8; 80],

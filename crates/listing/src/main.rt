@@ -1,5 +1,7 @@
 // Document 01's listing and its variants: reads the policy from standard input and writes what is printed for five asks,
 // the last two with rooms of 40 and 41 bytes.
+#![tactic(auto)]
+
 ghost use Rattle.std.specs.Prelude.{◌≤◌};
 
 use libc::{STDIN_FILENO, STDOUT_FILENO};

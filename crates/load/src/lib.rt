@@ -1,6 +1,8 @@
 // Loads a policy's text, line by line, into a lent store, or gives a refusal with its line.
 // Rests on `lines`, `rows`, `store`, `writing`, `policy`, `judge` and `ending`. What a reader must believe stands in `policy`'s
 // specs/Load.antt: `LoadedAs`. The promises of the steps between stand in specs/Step.antt.
+#![tactic(auto)]
+
 ghost use Rattle.std.specs.Prelude.{◌≤◌, ◌<◌, length, ◌≡◌};
 ghost use Rattle.lines.specs.Line.{Digits};
 ghost use Rattle.policy.specs.Frames.{frame_in};
@@ -36,7 +38,7 @@ fn add(store: &mut [u8], t: Tally, size: usize, bytes: &[u8]) -> Tally
 }
 
 // What a line gave: its refusal, or 0 with its length and with the tallies and the type after it.
-#[derive(Drop)]
+#[derive(Clone, Copy)]
 struct Step {
     number: u8,
     size: usize,
@@ -92,7 +94,7 @@ fn read_line(
 }
 
 // What all lines gave: the first refusal and its line, or 14; or 0 with the tallies after them.
-#[derive(Drop)]
+#[derive(Clone, Copy)]
 struct Lines {
     number: u8,
     line: usize,
@@ -142,7 +144,7 @@ fn read_lines(text: &[u8], store: &mut [u8]) -> Lines
 }
 
 // The refusal, 0 for none, and its line, 0 for none.
-#[derive(Drop)]
+#[derive(Clone, Copy)]
 pub struct Loaded {
     pub number: u8,
     pub line: usize,

@@ -1,5 +1,7 @@
 // Loads each text of standard input, 131,072 bytes at most, and writes its refusal as a line: 8f, number, line in 2 bytes.
 // The texts are a row of `cases`.
+#![tactic(auto)]
+
 use cases::Found;
 use libc::{STDIN_FILENO, STDOUT_FILENO};
 

@@ -1,5 +1,7 @@
 // Look-ups in a loaded store: a file's grades, the subject it stands for, the entry in force, its object. Rests on `fields` and what that rests on.
 // What a reader must believe stands in specs/Lookup.antt and in gran's specs/; specs/Best.antt and specs/Index.antt say what the loops find.
+#![tactic(auto)]
+
 ghost use Rattle.std.specs.Prelude.{◌≡◌, cond, List, ℕ, ◌≤◌, ◌<◌, eqb, length};
 ghost use Rattle.gran.specs.Policy.{Policy};
 ghost use Rattle.gran.specs.Lists.{place};
@@ -19,13 +21,13 @@ const PATHS: u8 = 96;
 const LONGEST: usize = 64;
 
 // For each path of the policy how specific it is for a file: 0 where the file is not under it, else one more than its length.
-#[derive(Drop)]
+#[derive(Clone, Copy)]
 pub struct Grades {
     pub of: [u8; 96],
 }
 
 // The best place so far, and its grade.
-#[derive(Drop)]
+#[derive(Clone, Copy)]
 struct Best {
     place: u8,
     grade: u8,
@@ -54,7 +56,7 @@ impl Best {
 }
 
 // A row of paths that a file is matched against.
-#[derive(Drop)]
+#[derive(Clone, Copy)]
 enum Row {
     // The subjects of a role's entries.
     OfRole(u8),

@@ -1,5 +1,7 @@
 // Abstract states and their steps as numbers, as a search goes through them. Rests on `tables`, `runs` and what those rest on.
 // What the loops go through stands in specs/Candidates.antt; the laws say that it is the model's steps, so no reader need believe it.
+#![tactic(auto)]
+
 ghost use Rattle.std.specs.Prelude.{◌≡◌};
 ghost use Rattle.numbered.specs.Number.{Sized, Among, number_of, digits_of};
 
@@ -11,7 +13,7 @@ pub const USER_LABEL: u16 = 97;
 pub const GROUP_LABEL: u16 = 98;
 
 // How many choices each part of a state has.
-#[derive(Drop)]
+#[derive(Clone, Copy)]
 pub struct Sizes {
     pub specials: usize,
     pub users: usize,
@@ -20,7 +22,7 @@ pub struct Sizes {
 }
 
 // The places of a state's four parts among their choices.
-#[derive(Drop)]
+#[derive(Clone, Copy)]
 pub struct Digits {
     pub special: usize,
     pub user: usize,

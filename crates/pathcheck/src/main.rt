@@ -1,5 +1,7 @@
 // Document 01's program: reads the three question lines and the policy from standard input and prints the answer.
 // Rests on `question`; `checked_enough`, there, says that an input is answered by its first 33,252 bytes.
+#![tactic(auto)]
+
 use libc::{STDIN_FILENO, STDOUT_FILENO};
 
 // Three question lines of 161 bytes, the longest good ones, and one byte more than the longest text.

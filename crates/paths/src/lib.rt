@@ -1,5 +1,7 @@
 // Paths as bytes: which are good, and when one is under another. Rests on nothing.
 // What a reader must believe stands in specs/Path.antt: `good_path`, `names` and `under`.
+#![tactic(auto)]
+
 ghost use Rattle.std.specs.Prelude.{true, false, [], ◌≡◌, drop};
 ghost use Rattle.paths.specs.Path.{plain, good_path, ended, first, under};
 

@@ -6,7 +6,7 @@ ghost use Rattle.policy.specs.Frames.{frame_in, number2, number4, role_from, fra
 use rows::wide;
 
 // A type with its shortest and longest payload. Bytes all: the compiled code lays the table down anew for each frame.
-#[derive(Drop)]
+#[derive(Clone, Copy)]
 struct FrameType {
     code: u8,
     shortest: u8,

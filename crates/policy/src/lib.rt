@@ -1,3 +1,5 @@
 // What a policy's text gives: its frames and their tests, the fold over its lines, and that an accepted policy is good. Rests on `paths`, `lines`, `rows`, `gran` and `store`.
 // What a reader must believe stands in specs/Frames.antt, the tests of a frame, and specs/Load.antt, what a text gives.
+#![tactic(auto)]
+
 pub mod frame; // frame.rt: the fields of a frame, and the tests that need no policy

@@ -1,5 +1,7 @@
 // pathcheck's work on slices: the whole input in, the whole output out. Rests on `leveecrumb` and all below.
 // What a reader must believe stands in specs/Question.antt: `CheckedAs`. The promises of the steps between stand in specs/Steps.antt.
+#![tactic(auto)]
+
 ghost use Rattle.std.specs.Prelude.{◌≡◌, ◌≤◌, length};
 ghost use Rattle.lines.specs.Line.{EncodedAs};
 ghost use Rattle.question.specs.Question.{fits, CheckedAs};
@@ -10,7 +12,7 @@ use lines::Frame;
 use policy::frame;
 
 // A line of the input: its frame, of no bytes where the line is missing or of wrong form, and where it ends.
-#[derive(Drop)]
+#[derive(Clone, Copy)]
 struct Line {
     frame: Frame,
     end: usize,

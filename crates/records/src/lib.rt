@@ -1,6 +1,8 @@
 // Step records: what a step of a run says, the bytes of its line, and the lines of an answer written into a room.
 // Rests on `lines`, `gran` and `store`.
 // What a reader must believe stands in specs/Record.antt: `records_of`; `step_bytes`, `step_lines` and `summary`; `filled` and `written`.
+#![tactic(auto)]
+
 ghost use Rattle.std.specs.Prelude.{◌≡◌, [], ◌∷◌, ◌+◌, ◌≤◌, length};
 ghost use Rattle.lines.specs.Line.{line_of};
 ghost use Rattle.store.specs.Layout.{two, four};
@@ -8,7 +10,7 @@ ghost use Rattle.records.specs.Record.{step_bytes, summary, filled, PutAs};
 
 // A step record, laid out as C does (16 bytes): unused fields are 0, no role is 255.
 #[repr(C)]
-#[derive(Drop)]
+#[derive(Clone, Copy)]
 pub struct Step {
     pub kind: u8,
     pub role: u8,
@@ -19,17 +21,17 @@ pub struct Step {
 }
 
 // The bytes of a line, zero filled, and how many they are.
-#[derive(Drop)]
+#[derive(Clone, Copy)]
 pub struct Line {
     pub size: usize,
     pub bytes: [u8; 11],
 }
 
 // A number's bytes, the highest first.
-#[derive(Drop)]
+#[derive(Clone, Copy)]
 struct Two(u8, u8);
 
-#[derive(Drop)]
+#[derive(Clone, Copy)]
 struct Four(u8, u8, u8, u8);
 
 fn two_bytes(n: u16) -> Two

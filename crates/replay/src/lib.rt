@@ -1,5 +1,7 @@
 // Replay: step records against the real rules, over a loaded store, and the last file's path. Rests on `ids`, `records` and what those rest on.
 // What a reader must believe stands in specs/Replay.antt; specs/Progress.antt says how the walk goes on. proofs/Rows.antt and Own.antt link a verdict to real runs.
+#![tactic(auto)]
+
 ghost use Rattle.std.specs.Prelude.{◌≡◌, ◌&&◌, List, ℕ, ◌<◌, eqb, ltb, length};
 ghost use Rattle.std.proofs.Math.Bool.{So};
 ghost use Rattle.gran.specs.Policy.{Policy, USER, GROUP, SET_UID, SET_GID, EXEC};
@@ -15,7 +17,7 @@ ghost use Rattle.replay.specs.Replay.{plainly, names, act_of, is_step, after, Re
 ghost use Rattle.replay.specs.Progress.{opened, concluded, Advanced};
 
 // What a row of records says of a loaded policy.
-#[derive(Drop)]
+#[derive(Clone, Copy)]
 pub enum Verdict {
     // Every record is a real step and the access is granted at the end; the last file's path number, 255 for none.
     Holds(u8),
@@ -27,7 +29,7 @@ pub enum Verdict {
 
 // The last file's path: the whole start where nothing was executed, else a part of the store.
 pub fn last_file<'a>(start: &'a [u8], store: &'a [u8], number: u8) -> &'a [u8]
-    ensures { Handed (last_area start.entry.ptr store.entry.ptr number) (last_place store.now number) (last_file start.now store.now number) result.ref_ptr result.now }
+    ensures { Handed (last_area start.entry.ref_ptr store.entry.ref_ptr number) (last_place store.now number) (last_file start.now store.now number) result.ref_ptr result.now }
 {
     if number == gran::NONE {
         return start;
@@ -236,7 +238,7 @@ pub fn access(store: &[u8], begin: &[u8], p: gran::Process, target: &[u8], kind:
 }
 
 // A replay under way: the process after the first `at` records; those from `stop` on are not walked, and `broken` says that a record was no step.
-#[derive(Drop)]
+#[derive(Clone, Copy)]
 struct Walk {
     process: gran::Process,
     at: usize,

@@ -1,5 +1,7 @@
 // The answer to a question about a policy in the store: its tables, the search, the lines. Rests on all below.
 // What a reader must believe stands in specs/Reply.antt (`Held`, `Responded`) and in the specs/ of `ask` (`Lines`).
+#![tactic(auto)]
+
 mod run;
 mod start;
 
@@ -19,7 +21,7 @@ use walk::Progress;
 const SUMMARY: usize = 13;
 
 // Where the next line goes, the number of the state that is left, and the process that is in it.
-#[derive(Drop)]
+#[derive(Clone, Copy)]
 pub struct Writing {
     pub at: usize,
     pub from: usize,

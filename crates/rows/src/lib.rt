@@ -1,5 +1,7 @@
 // Tables in lent bytes: rows of one width, found by how they begin, written behind one another, cleared; single bytes. Rests on `lines`.
 // What a reader must believe stands in specs/Rows.antt.
+#![tactic(auto)]
+
 ghost use Rattle.std.specs.Prelude.{◌≡◌, ◌+◌, ◌*◌, ◌≤◌, ◌<◌, length, set};
 ghost use Rattle.std.proofs.Math.Seq.{paste};
 ghost use Rattle.lines.specs.Line.{zeros};

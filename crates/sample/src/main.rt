@@ -1,4 +1,6 @@
 // Checks each input of standard input, a row of `cases` of 131,072 bytes at most, and writes what pathcheck prints for each, one after the other.
+#![tactic(auto)]
+
 use cases::Found;
 use libc::{STDIN_FILENO, STDOUT_FILENO};
 

@@ -1,5 +1,7 @@
 // A step of a run as its record: from the numbers that a search found, with real ids and paths. Rests on `numbered`, `ids`, `records` and what those rest on.
 // What a reader must believe stands in specs/Shown.antt (`Going`) and in the specs/ of `records` (`record_of`) and `gran`.
+#![tactic(auto)]
+
 ghost use Rattle.std.specs.Prelude.{◌≡◌, ◌⊎◌, true, cond, List, ℕ, ◌≤◌, ◌<◌, eqb, length};
 ghost use Rattle.std.proofs.Math.Bool.{So};
 ghost use Rattle.lines.specs.Line.{line_of};
@@ -26,7 +28,7 @@ use records::Step;
 use tables::cell;
 
 // The parts of a state, and the place of its subject among the paths of S.
-#[derive(Drop)]
+#[derive(Clone, Copy)]
 struct Seen {
     special: u8,
     user: u8,

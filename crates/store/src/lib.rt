@@ -1,12 +1,14 @@
 // The store: how a policy lies in 16,384 lent bytes, and the tallies that a loader keeps while it fills them.
 // Rests on `paths`, `lines`, `rows` and `gran`. What a reader must believe stands in specs/: `layout` (Layout.antt), `Holds` and
 // the tallies (Held.antt), and a policy with one thing more (Grow.antt). The laws in proofs/ serve those who write and read.
+#![tactic(auto)]
+
 ghost use Rattle.std.specs.Prelude.{◌≡◌};
 ghost use Rattle.store.specs.Layout.{four};
 ghost use Rattle.store.specs.Held.{Bounded, no_tally, role_tally, path_tally, move_tally, entry_tally, object_tally, uid_tally, gid_tally};
 
 // What the last entry has so far: objects, listed UIDs and GIDs, user and group mode.
-#[derive(Drop)]
+#[derive(Clone, Copy)]
 pub struct Last {
     pub objects: usize,
     pub uids: usize,
@@ -16,7 +18,7 @@ pub struct Last {
 }
 
 // What was loaded so far: how many of each kind, the bytes of all paths, and the last entry.
-#[derive(Drop)]
+#[derive(Clone, Copy)]
 pub struct Tally {
     pub users: usize,
     pub groups: usize,

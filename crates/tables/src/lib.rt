@@ -1,5 +1,7 @@
 // The tables that a search fills first from a loaded store, in 8,192 lent bytes. Rests on `lookup`, `ids`, `runs` and what those rest on.
 // What a reader must believe stands in specs/Tables.antt: `Tabled`. specs/Regions.antt says what each part is filled with.
+#![tactic(auto)]
+
 ghost use Rattle.std.specs.Prelude.{◌≡◌, List, ℕ, ◌+◌, ◌*◌, ◌≤◌, ◌<◌, eqb, length};
 ghost use Rattle.gran.specs.Lists.{place};
 ghost use Rattle.gran.specs.Policy.{Policy, SPECIAL};

@@ -1,6 +1,8 @@
 // The search: breadth first over the states of a policy, as numbers, on a lent work area. Rests on `numbered` and what that rests on.
 // Its code and contracts speak of numbers alone (specs/Walk.antt, `search` and `trail`). What the end of a search means in the model's terms
 // stands in specs/Found.antt, `Met`, and in gran's `Unreached`; proofs/Found.antt shows that it holds, so no reader need believe the rest.
+#![tactic(auto)]
+
 mod area;
 mod execs;
 pub mod state;
@@ -32,14 +34,14 @@ pub const FLAGS: usize = 2048;
 
 // How many states were found, and 1 where the last of them has the access, which ends the search. Whole words both: with a bool beside the
 // count, the compiled loops would carry it through memory, in pieces.
-#[derive(Drop)]
+#[derive(Clone, Copy)]
 pub struct Progress {
     pub count: usize,
     pub met: usize,
 }
 
 // An exec: the entry in force, the object's place in it, and the object's path.
-#[derive(Drop)]
+#[derive(Clone, Copy)]
 pub struct Exec {
     pub from: u8,
     pub place: u8,

@@ -29,7 +29,7 @@ pub fn place_row(at: usize, size: usize) -> [u8; 3]
 }
 
 // An entry with no object and no id yet: its first would be at these places.
-pub fn entry_row_lem(
+pub fn entry_row(
     object: usize,
     id: usize,
     subject: u8,

@@ -1,5 +1,7 @@
 // Writers: what each frame adds to a lent store, and the header at the end. Each takes the tallies so far and gives the next ones.
 // Rests on `rows`, `gran` and `store`. What a reader must believe stands in specs/Added.antt, besides what `store` says.
+#![tactic(auto)]
+
 ghost use Rattle.std.specs.Prelude.{◌≡◌, [], ◌∷◌, ◌+◌, ◌-◌, ◌*◌, ◌%◌, ◌≤◌, ◌<◌, length};
 ghost use Rattle.rows.specs.Rows.{written};
 ghost use Rattle.store.specs.Layout.{four};
@@ -67,7 +69,7 @@ pub fn add_entry(
     let at = t.entries * 12;
     let objects = t.objects;
     let used = t.bytes + 2 * t.moves + 4 * t.ids;
-    let row = encode::entry_row_lem(objects, used, subject, role, caps, users, groups);
+    let row = encode::entry_row(objects, used, subject, role, caps, users, groups);
     rows::put_row(&mut store[1156..1924], at, &row);
     t.with_entry(users, groups)
 }

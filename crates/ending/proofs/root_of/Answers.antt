@@ -1,0 +1,34 @@
+use mathlib.Core.Path.{◌∙◌, refl, sym}
+use native.Mathlib.Omega.{arith}
+use lib.ListN.{length}
+use Rattle.paths.specs.Path.{is_slash}
+use Prim.Native.Nat.{◌<◌}
+use mathlib.Core.Bool.{true, false}
+use borrow.Author.Tests.{eq-eqb, ne_eqb}
+use Rattle.store.specs.Layout.{root_of}
+use Rattle.ending.proofs.Roots.{place-next, place_end}
+use Rattle.ending.proofs.Stored.{slash_read}
+use Rattle.ending.proofs.root_of.Goals as goal
+
+pub loop-i-init : goal.loop-i-init
+unfolding root_of
+loop-i-init c = (omega arith, λ P rest sound h. refl)
+
+pub returns-then-store-i-eq1 : goal.returns-then-store-i-eq1
+returns-then-store-i-eq1 c P rest sound h =
+    let s = c.before.before.before.before.before in
+    let l = c.loop-i in
+    let within : l.i < length P.paths = omega (arith, h.paths) in
+    sym
+    (l.invariant.1 P rest sound h ∙ place-next is_slash P.paths [] l.i within true (sym (slash_read P rest s.args.t s.args.store.now s.requires.bounded h sound l.i within ∙ eq-eqb _ _ c.if-store-i-eq1.true)))
+
+pub loop-i-preserved : goal.loop-i-preserved
+loop-i-preserved c =
+    let s = c.before.before.before.before.before in (
+      omega arith,
+      λ P rest sound h. let l = c.loop-i in let within : l.i < length P.paths = omega (arith, h.paths) in l.invariant.1 P rest sound h
+          ∙ place-next is_slash P.paths [] l.i within false (sym (slash_read P rest s.args.t s.args.store.now s.requires.bounded h sound l.i within ∙ ne_eqb _ _ c.if-store-i-eq1.false)),
+    )
+
+pub returns : goal.returns
+returns c = λ P rest sound h. sym (c.loop-i.invariant.1 P rest sound h ∙ place_end is_slash P.paths c.loop-i.i (omega (arith, h.paths)))

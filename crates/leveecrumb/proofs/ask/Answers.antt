@@ -1,0 +1,55 @@
+-- `ask` meets its contract: the load and the answer, each from the call that gave it.
+use mathlib.Core.Path.{sym, ap, ◌∙◌}
+use Prim.Native.Nat.{◌≤◌}
+use native.Mathlib.Omega.{arith}
+use lib.ListN.{length}
+use lib.Seq.{length-take-le}
+use Rattle.lines.specs.Line.{zeros}
+use Rattle.lines.proofs.Rooms.{length-zeros}
+use Rattle.reply.proofs.Loads.{held_few, blank_of}
+use Rattle.ask.specs.Ask.{Asked, Areas}
+use Rattle.leveecrumb.proofs.Outcomes.{comes-refused, long_enough, holds_after, comes_answered}
+use Rattle.leveecrumb.proofs.ask.Goals as goal
+use Rattle.leveecrumb.proofs.ask.Lts as lts
+
+abbrev asked : lts.Start → Asked
+asked s = record { uid = s.args.uid; gid = s.args.gid; start = s.args.start.now; target = s.args.target.now; kind = s.args.kind }
+
+abbrev lent : lts.Start → Areas
+lent s = record { store = s.args.store.now; work = s.args.work.now; room = s.args.room.now }
+
+-- ---- once the text is loaded
+
+abbrev begun : lts.Else-number-ne0 → lts.Start
+begun e = e.before.before.before.before.before.before.before.before.before.before.before
+
+long : (e : lts.Else-number-ne0) → 24576 ≤ length (lent (begun e)).work
+long e = let s = begun e in long_enough 24576 (length (lent s).work) s.args.text.now (asked s) (lent s) _ _ _ e.loaded-o.ensures e.if-number-ne0.false
+
+pub returns-then-number-ne0 : goal.returns-then-number-ne0
+returns-then-number-ne0 c =
+    let s = c.before.before.before.before.before.before.before.before.before.before.before in
+    comes-refused 24576 (length (lent s).work) s.args.text.now (asked s) (lent s) _ _ _ c.loaded-o.ensures c.if-number-ne0.true
+
+pub slice_bounds-area-end : goal.slice_bounds-area-end
+slice_bounds-area-end c = long c
+
+pub slice_bounds-area-end-2 : goal.slice_bounds-area-end-2
+slice_bounds-area-end-2 c = sym (length-take-le 24576 (lent (begun c.before)).work (long c.before))
+
+pub respond-requires : goal.respond-requires
+respond-requires c =
+    let e = c.before.before.before.before.before.before.before in
+    let s = begun e in
+    let held = holds_after 24576 (length (lent s).work) s.args.text.now (asked s) (lent s) _ _ _ e.loaded-o.ensures e.if1.false in
+    let zero = c.clear.ensures ∙ ap zeros (length-take-le 24576 (lent s).work (long e)) in
+    (held, blank_of _ 24576 zero (omega (arith, held_few held)))
+
+pub returns : goal.returns
+returns c =
+    let e = c.before.before.before.before.before.before.before.before.before.before.before.before in
+    let s = begun e in
+    let d = c.respond.ensures in
+    let cleared = c.clear in
+    let same = ap length cleared.ensures ∙ length-zeros _ ∙ length-take-le 24576 (lent s).work (long e) in
+    comes_answered 24576 (length (lent s).work) s.args.text.now (asked s) (lent s) _ _ _ e.loaded-o.ensures e.if1.false _ _ _ (d.cleared ∙ ap zeros same) d.answers

@@ -1,0 +1,18 @@
+-- `loaded` meets its contract: the first refusals and the load, each from the call that gave it.
+use Rattle.ask.specs.Ask.{Asked}
+use Rattle.leveecrumb.proofs.Outcomes.{loads-early, loads-after}
+use Rattle.leveecrumb.proofs.loaded.Goals as goal
+use Rattle.leveecrumb.proofs.loaded.Lts as lts
+
+abbrev asked : lts.Start → Asked
+asked s = record { uid = s.args.uid; gid = s.args.gid; start = s.args.start.now; target = s.args.target.now; kind = s.args.kind }
+
+pub returns-then-refusal-ne0 : goal.returns-then-refusal-ne0
+returns-then-refusal-ne0 c =
+    let s = c.before.before.before.before.before.before in
+    loads-early s.args.text.now (asked s) s.args.work s.args.store.now _ c.early-refusal.ensures c.if-refusal-ne0.true
+
+pub returns : goal.returns
+returns c =
+    let s = c.before.before.before.before.before.before.before.before.before.before in
+    loads-after s.args.text.now (asked s) s.args.work s.args.store.now _ c.early-refusal.ensures c.if-refusal-ne0.false _ _ _ c.load.ensures

@@ -1,0 +1,22 @@
+-- `respond` meets its contract: the ask's outcome, and what was told of it.
+use borrow.Author.Rules.{rules}
+use Rattle.policy.specs.Frames.{path_from}
+use Rattle.question.specs.Steps.{asked_by}
+use Rattle.question.proofs.Printing.{responded}
+use Rattle.question.proofs.respond.Goals as goal
+
+pub returns : goal.returns
+unfolding path_from
+returns c =
+    let s = c.before.before.before.before.before.before.before.before.before.before.before.before.before.before.before.before.before.before.before.before.before.before.before.before.before.before.before.before.before in
+    responded
+    s.args.text.now
+    (asked_by s.args.question s.args.start s.args.target)
+    (record { store = c.fresh_store-store.result; work = c.fresh_work-work.result; room = s.args.output.now })
+    _
+    _
+    _
+    (search rules)
+    (search rules)
+    (rw (c.number4-uid.ensures s.args.question.size, c.number4-gid.ensures s.args.question.size, c.byte-kind.ensures) at c.ask-answer.ensures)
+    c.tell.ensures

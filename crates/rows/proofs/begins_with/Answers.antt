@@ -1,0 +1,21 @@
+use borrow.Author.Rules.{rules}
+use mathlib.Core.Path.{◌∙◌, refl, sym}
+use native.Mathlib.Omega.{arith}
+use Rattle.rows.proofs.Laws.{begins-same, begins_other, begins-end}
+use Rattle.rows.proofs.begins_with.Goals as goal
+
+pub loop-i-init : goal.loop-i-init
+loop-i-init c = (search rules, refl)
+
+pub returns-then-key-i : goal.returns-then-key-i
+returns-then-key-i c =
+    let l = c.before.before.before.before in
+    sym (l.loop-i.invariant.1 ∙ begins_other _ _ _ c.loop-i-test.true (omega arith) c.if-key-i.true)
+
+pub loop-i-preserved : goal.loop-i-preserved
+loop-i-preserved c =
+    let l = c.before.before.before.before in
+    (search rules, l.loop-i.invariant.1 ∙ begins-same _ _ _ c.loop-i-test.true (omega arith) c.if-key-i.false)
+
+pub returns : goal.returns
+returns c = sym (c.loop-i.invariant.1 ∙ begins-end _ _ _ c.loop-i-test.false)

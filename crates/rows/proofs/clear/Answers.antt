@@ -1,0 +1,30 @@
+use borrow.Author.Rules.{rules}
+use borrow.Author.Fill.{fill_none, fill_more}
+use mathlib.Core.Path.{ap, ◌≡◌, ◌∙◌, refl}
+use mathlib.Core.List.{List, append-nil}
+use Prim.Native.Nat.{ℕ}
+use native.Mathlib.Omega.{arith}
+use lib.Seq.{drop-length}
+use lib.ListN.{set, length, length-set}
+use Rattle.lines.specs.Line.{zeros}
+use Rattle.rows.proofs.clear.Goals as goal
+
+pub loop-i-init : goal.loop-i-init
+unfolding zeros
+loop-i-init c = (search rules, fill_none _ 0, refl)
+
+pub loop-i-preserved : goal.loop-i-preserved
+unfolding zeros
+loop-i-preserved c =
+    let l = c.before in (
+      search rules,
+      ap (λ (t : List ℕ). set t l.loop-i.i 0) l.loop-i.invariant.1 ∙ fill_more l.loop-i.i 0 l.args.part.now (omega arith),
+      simp length-set l.loop-i.invariant.2,
+    )
+
+pub returns : goal.returns
+unfolding zeros
+returns c =
+    let l = c.before in
+    let end : l.loop-i.i ≡ length l.args.part.now = omega arith in
+    l.loop-i.invariant.1 ∙ rw (end, drop-length) (append-nil _)

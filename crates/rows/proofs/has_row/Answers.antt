@@ -1,0 +1,25 @@
+use mathlib.Core.Path.{◌∙◌, refl, sym}
+use mathlib.Core.Bool.{true, false}
+use native.Mathlib.Omega.{arith}
+use Rattle.rows.proofs.Laws.{row_room, rows_more, rows_end}
+use Rattle.rows.proofs.has_row.Goals as goal
+
+pub loop-left-init : goal.loop-left-init
+loop-left-init c = (omega arith, refl)
+
+pub overflow_add-end : goal.overflow_add-end
+overflow_add-end c = omega (arith, row_room c.args.width c.loop-left.left c.loop-left-test.true)
+
+pub returns-then-begins_with : goal.returns-then-begins_with
+returns-then-begins_with c =
+    let l = c.before.before.before.before in
+    sym (l.loop-left.invariant.1 ∙ rows_more _ _ _ _ _ c.loop-left-test.true true (sym c.begins_with.ensures ∙ c.if-begins_with.true))
+
+pub loop-left-preserved : goal.loop-left-preserved
+loop-left-preserved c =
+    let l = c.before.before.before.before in
+    let t = c.loop-left-test.true in
+    (omega (arith, row_room l.args.width l.loop-left.left t), l.loop-left.invariant.1 ∙ rows_more _ _ _ _ _ t false (sym c.begins_with.ensures ∙ c.if-begins_with.false))
+
+pub returns : goal.returns
+returns c = sym (c.loop-left.invariant.1 ∙ rows_end _ _ _ _ c.loop-left-test.false)

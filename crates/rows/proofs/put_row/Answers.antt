@@ -1,0 +1,28 @@
+use borrow.Author.Rules.{rules}
+use mathlib.Core.List.{List}
+use mathlib.Core.Path.{◌∙◌, refl, ap}
+use Prim.Native.Nat.{ℕ, ◌+◌}
+use native.Mathlib.Nat.{le_antisymm}
+use native.Mathlib.Omega.{arith}
+use native.Mathlib.Numerals.{add-one}
+use lib.Seq.{paste, paste-zero, paste-suc}
+use lib.ListN.{get_or, set, length-set}
+use Rattle.rows.proofs.put_row.Goals as goal
+
+pub loop-i-init : goal.loop-i-init
+loop-i-init c = (search rules, paste-zero _ c.args.at c.args.row.now, refl)
+
+pub loop-i-preserved : goal.loop-i-preserved
+loop-i-preserved c =
+    let l = c.before.before in
+    let a = l.args in (
+      search rules,
+      ap (λ (t : List ℕ). set t (a.at + l.loop-i.i) (get_or a.row.now l.loop-i.i 0)) l.loop-i.invariant.1
+          ∙ rw add-one (paste-suc a.table.now a.at a.row.now l.loop-i.i 0 (omega arith) c.loop-i-test.true),
+      simp length-set l.loop-i.invariant.2,
+    )
+
+pub returns : goal.returns
+returns c =
+    let a = c.args in
+    c.loop-i.invariant.1 ∙ ap (paste a.table.now a.at a.row.now) (le_antisymm c.loop-i.invariant.0 c.loop-i-test.false)

@@ -1,0 +1,48 @@
+-- `fill_from` meets its contract: the four parts come back one behind the other.
+use mathlib.Core.Path.{◌≡◌, ap, ◌∙◌}
+use Prim.Native.Nat.{ℕ, ◌+◌, ◌-◌}
+use native.Mathlib.Omega.{arith}
+use lib.ListN.{take, drop}
+use Rattle.fields.specs.Fields.{subject_count}
+use Rattle.fields.proofs.Header.{subject-count}
+use Rattle.tables.proofs.Parts.{parts_none, parts_more}
+use Rattle.tables.proofs.Whole.{few, subjects_are, tabled_of}
+use Rattle.tables.proofs.fill_from.Goals as goal
+
+pub returns-then-count-gt64 : goal.returns-then-count-gt64
+returns-then-count-gt64 c P rest L listed = absurd (omega (arith, c.if-count-gt64.true, c.subject_count-count.ensures, subject-count L, few L))
+
+pub overflow_add-subjects : goal.overflow_add-subjects
+overflow_add-subjects c = omega arith
+
+pub slice_bounds-subjects-count : goal.slice_bounds-subjects-count
+slice_bounds-subjects-count c = omega arith
+
+pub slice_bounds-copy-count : goal.slice_bounds-copy-count
+slice_bounds-copy-count c = omega arith
+
+pub slice_bounds-fill_stands-count : goal.slice_bounds-fill_stands-count
+slice_bounds-fill_stands-count c = omega arith
+
+pub slice_bounds-fill_tests-count : goal.slice_bounds-fill_tests-count
+slice_bounds-fill_tests-count c = omega arith
+
+pub slice_bounds-fill_rows-count : goal.slice_bounds-fill_rows-count
+slice_bounds-fill_rows-count c = omega arith
+
+pub returns : goal.returns
+returns c P rest L listed =
+    let s = c.before.before.before.before.before.before.before.before.before.before.before.before.before.before.before.before.before.before.before.before.before.before.before in
+    let args = s.args in
+    let a = c.copy in
+    let b = c.fill_stands in
+    let d = c.fill_tests in
+    let e = c.fill_rows in
+    let one = parts_more 96 a.new.1.0 (parts_none args.t.now s.requires.t_len) (omega arith) a.auto.1.0 in
+    let two = parts_more 96 b.new.1.1.0 one (omega arith) b.auto.1.1.0 in
+    let three = parts_more 1856 d.new.1.1.1.1.0 two (omega arith) d.auto.1.1.1.1.0 in
+    let four = parts_more 6144 e.new.1.1.0 three (omega arith) e.auto.1.1.0 in
+    let count : 32 + c.subject_count-count.result - 32 ≡ subject_count args.store.now =
+    omega (arith, c.subject_count-count.ensures) in
+    let own = ap (λ (n : ℕ). take n (drop 32 args.lists.now)) count ∙ subjects_are L args.lists.now s.requires.lists_len listed in
+    tabled_of L args.lists.now s.requires.lists_len listed _ _ _ _ _ _ _ four a.ensures own b.ensures (d.ensures P rest L listed) e.ensures

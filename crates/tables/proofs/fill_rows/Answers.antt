@@ -1,0 +1,26 @@
+use native.Mathlib.Nat.{not-suc-le-zero}
+use native.Mathlib.Omega.{arith}
+use Rattle.lookup.specs.Index.{entry_index, object_index}
+use Rattle.tables.proofs.Rows.{rows_more}
+use Rattle.tables.proofs.fill_rows.Goals as goal
+
+pub loop-k-init : goal.loop-k-init
+loop-k-init c = (omega arith, omega arith, omega arith, λ P rest L own k h. absurd (not-suc-le-zero h))
+
+pub fill_row-requires : goal.fill_row-requires
+unfolding entry_index object_index
+fill_row-requires c = record { entries_value = (c.index_entries.ensures, c.index_objects.ensures); k_bound = omega arith; part_len = omega arith }
+
+pub loop-k-preserved : goal.loop-k-preserved
+loop-k-preserved c =
+    let args = c.args in
+    let loop = c.loop-k in
+    let row = c.fill_row in (
+      omega arith,
+      loop.invariant.1,
+      omega (arith, row.auto.1.1.1.1.1.0),
+      rows_more args.store.now args.subjects.now loop.k loop.part _ (omega arith) (omega arith) loop.invariant.3 row.ensures,
+    )
+
+pub returns : goal.returns
+returns c P rest L own k h = c.loop-k.invariant.3 P rest L own k (omega arith)

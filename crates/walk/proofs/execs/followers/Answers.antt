@@ -1,0 +1,77 @@
+use mathlib.Core.Path.{◌≡◌, refl, sym, ap, ◌∙◌}
+use mathlib.Core.Bool.{Bool}
+use mathlib.Core.List.{List, ◌∷◌}
+use Prim.Native.Nat.{ℕ, ◌+◌, ◌≤◌}
+use native.Mathlib.Omega.{arith}
+use lib.ListN.{length, set, length-set}
+use lib.Seq.{set_split, drop-set-lt}
+use Rattle.walk.specs.Walk.{Written}
+use Rattle.walk.specs.Image.{is_another, followers_of}
+use Rattle.walk.proofs.Images.{collected_few, collect_turn, collect_ends, collected-length}
+use Rattle.walk.proofs.execs.followers.Goals as goal
+use Rattle.walk.proofs.execs.followers.Lts as lts
+
+test : (c : lts.At-loop-j) → ℕ → Bool
+test c = let a = c.before.before.before.args in is_another a.t.now a.cells a.kept
+
+abbrev first : lts.At-loop-j → List ℕ
+first c = c.before.before.before.args.kept ∷ []
+
+-- At most one more was written than looked at, and the length stays.
+few : (c : lts.At-loop-j) → (c.loop.n ≤ c.loop.j + 1) × (length c.loop.out ≡ length c.before.before.before.args.out.now)
+unfolding test
+few c =
+    let s = c.before.before.before in
+    let l = c.loop in
+    let long : length (set s.args.out.now 0 s.args.kept) ≡ length s.args.out.now = length-set s.args.out.now 0 s.args.kept in
+    (omega (arith, collected_few (first c) (test c) l.invariant.0), collected-length (first c) (test c) l.invariant.0 (omega (arith, l.invariant.1, s.requires.1.1.1)) ∙ long)
+
+pub overflow_cast-out : goal.overflow_cast-out
+overflow_cast-out c = omega arith
+
+pub bounds-out-0 : goal.bounds-out-0
+bounds-out-0 c = omega arith
+
+pub loop-j-init : goal.loop-j-init
+loop-j-init c =
+    let a = c.args in (
+      record {
+        size = refl;
+        written = set_split a.out.now 0 a.kept (omega arith) ∙ ap (◌∷◌ a.kept) (sym (drop-set-lt 1 a.out.now 0 a.kept (omega arith)));
+      },
+      omega arith,
+    )
+
+pub is_another-hit-requires : goal.is_another-hit-requires
+is_another-hit-requires c = omega arith
+
+pub overflow_cast-j : goal.overflow_cast-j
+overflow_cast-j c = omega arith
+
+pub keep-n-requires : goal.keep-n-requires
+keep-n-requires c = let f = few c.before.before.before in (omega (arith, f), omega (arith, f))
+
+pub overflow_add-j : goal.overflow_add-j
+overflow_add-j c = omega arith
+
+pub loop-j-smaller : goal.loop-j-smaller
+loop-j-smaller c = omega arith
+
+pub loop-j-preserved : goal.loop-j-preserved
+unfolding test
+loop-j-preserved c =
+    let on = c.before.before.before.before.before.before in
+    let a = on.args in
+    let hit = c.is_another-hit in
+    (rw (c.keep-n.ensures.0, c.keep-n.ensures.1) (collect_turn (first on) (test on) on.loop-j.invariant.0 (omega (arith, length-set a.out.now 0 a.kept)) hit.result (sym hit.ensures)), omega arith)
+
+pub returns : goal.returns
+unfolding test followers_of
+returns c =
+    let a = c.args in
+    let l = c.loop-j in
+    let w : Written (followers_of a.t.now a.cells a.count a.kept) (set a.out.now 0 a.kept) l.out l.n = collect_ends (first c.before) (test c.before) l.invariant.0 a.count (omega (arith, l.invariant.1)) in
+    record {
+      size = w.size;
+      kept = w.kept ∙ ap (◌++◌ (followers_of a.t.now a.cells a.count a.kept)) (drop-set-lt l.n a.out.now 0 a.kept (omega (arith, l.invariant.0.size)));
+    }
