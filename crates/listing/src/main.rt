@@ -4,7 +4,7 @@
 
 ghost use Rattle.std.specs.Prelude.{◌≤◌};
 
-use libc::{STDIN_FILENO, STDOUT_FILENO};
+use std::io::{self, Write};
 
 // Areas of which no content matters.
 fn fresh_work() -> [u16; 24576] {
@@ -20,7 +20,7 @@ fn fresh_room() -> [u8; 128] {
 }
 
 // Asks for the account's access to /etc/ntp/ and writes what is printed.
-fn show(text: &[u8], room: &mut [u8], uid: u32, kind: u8) {
+fn show<W: Write>(text: &[u8], room: &mut [u8], uid: u32, kind: u8, printed: &mut W) -> io::Result<()> {
     let mut store = fresh_store();
     let mut work = fresh_work();
     let answer = leveecrumb::ask(
@@ -36,24 +36,26 @@ fn show(text: &[u8], room: &mut [u8], uid: u32, kind: u8) {
     );
     let size = question::tell(answer, room);
     if size <= room.len() {
-        io::write_all(STDOUT_FILENO, &room[..size]);
+        printed.write_all(&room[..size])?;
     }
+    Ok(())
 }
 
 // The same with a room of this length.
-fn show_in(length: usize, text: &[u8], uid: u32, kind: u8)
+fn show_in<W: Write>(length: usize, text: &[u8], uid: u32, kind: u8, printed: &mut W) -> io::Result<()>
     requires { length ≤ 128 }
 {
     let mut room = fresh_room();
-    show(text, &mut room[..length], uid, kind);
+    show(text, &mut room[..length], uid, kind, printed)
 }
 
-fn main() {
+fn main(rt: HostRuntime) -> io::Result<()> {
     let mut text = [0u8; 1024];
-    let n = io::read_full(STDIN_FILENO, &mut text);
-    show_in(128, &text[..n], 1000, 1);
-    show_in(128, &text[..n], 1000, 0);
-    show_in(128, &text[..n], 1001, 1);
-    show_in(40, &text[..n], 1000, 1);
-    show_in(41, &text[..n], 1000, 1);
+    let n = input::fill(&mut rt.stdin(), &mut text)?;
+    let printed = &mut rt.stdout();
+    show_in(128, &text[..n], 1000, 1, printed)?;
+    show_in(128, &text[..n], 1000, 0, printed)?;
+    show_in(128, &text[..n], 1001, 1, printed)?;
+    show_in(40, &text[..n], 1000, 1, printed)?;
+    show_in(41, &text[..n], 1000, 1, printed)
 }

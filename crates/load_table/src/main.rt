@@ -3,12 +3,12 @@
 #![tactic(auto)]
 
 use cases::Found;
-use libc::{STDIN_FILENO, STDOUT_FILENO};
+use std::io::{self, Write};
 
 const MOST: usize = 131072;
 
 // Loads one text and writes what came back.
-fn report(text: &[u8], store: &mut [u8]) {
+fn report<W: Write>(text: &[u8], store: &mut [u8], printed: &mut W) -> io::Result<()> {
     let loaded = load::load(text, store);
     let line = loaded.line;
     let bytes = [
@@ -19,23 +19,23 @@ fn report(text: &[u8], store: &mut [u8]) {
     ];
     let mut room = [0u8; 9];
     lines::encode(&bytes, &mut room);
-    io::write_all(STDOUT_FILENO, &room);
+    printed.write_all(&room)
 }
 
-fn report_all(input: &[u8], store: &mut [u8]) {
+fn report_all<W: Write>(input: &[u8], store: &mut [u8], printed: &mut W) -> io::Result<()> {
     let mut at = 0;
     loop {
         let Found::Case(from, end) = cases::next(input, at) else {
-            return;
+            return Ok(());
         };
-        report(&input[from..end], store);
+        report(&input[from..end], store, printed)?;
         at = end;
     }
 }
 
-fn main() {
+fn main(rt: HostRuntime) -> io::Result<()> {
     let mut input = [0u8; MOST];
     let mut store = [0u8; 16384];
-    let n = io::read_full(STDIN_FILENO, &mut input);
-    report_all(&input[..n], &mut store);
+    let n = input::fill(&mut rt.stdin(), &mut input)?;
+    report_all(&input[..n], &mut store, &mut rt.stdout())
 }

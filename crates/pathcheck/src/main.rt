@@ -2,7 +2,7 @@
 // Rests on `question`; `checked_enough`, there, says that an input is answered by its first 33,252 bytes.
 #![tactic(auto)]
 
-use libc::{STDIN_FILENO, STDOUT_FILENO};
+use std::io::{self, Write};
 
 // Three question lines of 161 bytes, the longest good ones, and one byte more than the longest text.
 fn fresh_input() -> [u8; 33252] {
@@ -14,10 +14,10 @@ fn fresh_output() -> [u8; 49152] {
     [0u8; 49152]
 }
 
-fn main() {
+fn main(rt: HostRuntime) -> io::Result<()> {
     let mut input = fresh_input();
     let mut output = fresh_output();
-    let n = io::read_full(STDIN_FILENO, &mut input);
+    let n = input::fill(&mut rt.stdin(), &mut input)?;
     let size = question::check(&input[..n], &mut output);
-    io::write_all(STDOUT_FILENO, &output[..size]);
+    rt.stdout().write_all(&output[..size])
 }

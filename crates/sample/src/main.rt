@@ -2,7 +2,7 @@
 #![tactic(auto)]
 
 use cases::Found;
-use libc::{STDIN_FILENO, STDOUT_FILENO};
+use std::io::{self, Write};
 
 fn fresh_input() -> [u8; 131072] {
     [0u8; 131072]
@@ -14,25 +14,25 @@ fn fresh_output() -> [u8; 49152] {
 }
 
 // Checks one input and writes what is printed.
-fn answer(input: &[u8], output: &mut [u8]) {
+fn answer<W: Write>(input: &[u8], output: &mut [u8], printed: &mut W) -> io::Result<()> {
     let size = question::check(input, output);
-    io::write_all(STDOUT_FILENO, &output[..size]);
+    printed.write_all(&output[..size])
 }
 
-fn answer_all(input: &[u8], output: &mut [u8]) {
+fn answer_all<W: Write>(input: &[u8], output: &mut [u8], printed: &mut W) -> io::Result<()> {
     let mut at = 0;
     loop {
         let Found::Case(from, end) = cases::next(input, at) else {
-            return;
+            return Ok(());
         };
-        answer(&input[from..end], output);
+        answer(&input[from..end], output, printed)?;
         at = end;
     }
 }
 
-fn main() {
+fn main(rt: HostRuntime) -> io::Result<()> {
     let mut input = fresh_input();
     let mut output = fresh_output();
-    let n = io::read_full(STDIN_FILENO, &mut input);
-    answer_all(&input[..n], &mut output);
+    let n = input::fill(&mut rt.stdin(), &mut input)?;
+    answer_all(&input[..n], &mut output, &mut rt.stdout())
 }
