@@ -19,7 +19,7 @@ use Rattle.gran.specs.Lists.{any, member}
 use Rattle.gran.specs.Policy.{Role, Move, Object, Entry}
 use Rattle.gran.specs.Match.{object_path, is_entry}
 use Rattle.gran.specs.Role.{is_role, is_move}
-use Rattle.store.specs.Layout.{four, role_row, move_row, object_row, entry_row, entry_rows}
+use Rattle.store.specs.Layout.{four, ids_of, role_row, move_row, object_row, entry_row, entry_rows}
 use Rattle.store.proofs.Reading.{four_number}
 
 -- ---- rows in bytes
@@ -57,7 +57,7 @@ pub found_entries : (key : List ℕ) (test : Entry → Bool) → ((object id : �
     has_row key (entry_rows object id es) ≡ any test es
 unfolding has_row entry_rows
 found_entries key test f object id [] = refl
-found_entries key test f object id (e ∷ es) = rw (f object id e, found_entries key test f _ _ es)
+found_entries key test f object id (e ∷ es) = rw (f object id e, found_entries key test f (object + length e.objects) (id + 4 * length (ids_of e)) es)
 
 -- ---- keys
 

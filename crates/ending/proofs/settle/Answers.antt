@@ -26,14 +26,13 @@ returns-then-is_crowded c =
 
 pub returns : goal.returns
 returns c =
-    let s = c.before.before.before.before.before.before.before.before.before.before.before in
     let subjects-in = c.subjects_in-subjects in
     record {
       kept = c.finish.ensures.kept;
       lowest = λ P rest sound h.
-          let rooted = c.is_unrooted.ensures P rest sound h (s.root-of.ensures P rest sound h) in
+          let rooted = c.is_unrooted.ensures P rest sound h (c.root_of-root.ensures P rest sound h) in
           let crowded = c.is_crowded.ensures P rest _ h (subjects-in.ensures P rest sound h) in
           sym (no-refusal P (sym rooted ∙ c.if-is_unrooted.false) (sym crowded ∙ c.if-is_crowded.false));
-      stored = λ z P rest sound h. c.finish.ensures.stored P rest h (s.root-of.ensures P rest sound h) (subjects-in.ensures P rest sound h);
+      stored = λ z P rest sound h. c.finish.ensures.stored P rest h (c.root_of-root.ensures P rest sound h) (subjects-in.ensures P rest sound h);
       same = λ n. absurd (n refl);
     }

@@ -16,17 +16,16 @@ pub loop-i-preserved : goal.loop-i-preserved
 loop-i-preserved c =
     let l = c.loop-i in
     let a = c.args in
-    let p = c.before.before.before.before.before.before.requires in (
+    let p = c.requires in (
       omega arith,
       length-set l.marks c.wide-subject.result 1 ∙ l.invariant.1,
       λ P rest sound h.
-          marks-next (subjects P) l.marks l.i (l.invariant.2 P rest sound h) (omega (arith, subjects_long P rest a.t a.store.now p.0 h)) c.wide-subject.result
-          (c.wide-subject.ensures.0 ∙ subject_at P rest a.t a.store.now p.0 h l.i (omega (arith, h.entries)))
+          marks-next (subjects P) l.marks l.i (l.invariant.2 P rest sound h) (omega (arith, subjects_long P rest a.t a.store.now p.bounded h)) c.wide-subject.result
+          (c.wide-subject.ensures.0 ∙ subject_at P rest a.t a.store.now p.bounded h l.i (omega (arith, h.entries)))
           (omega (arith, c.wide-subject.ensures.1, l.invariant.1)),
     )
 
 pub returns : goal.returns
 returns c = λ P rest sound h.
     let l = c.loop-i in
-    let s = c.before.before.before.before in
-    marks-end (subjects P) l.marks l.i (l.invariant.2 P rest sound h) (omega (arith, subjects_long P rest s.args.t s.args.store.now s.requires.bounded h))
+    marks-end (subjects P) l.marks l.i (l.invariant.2 P rest sound h) (omega (arith, subjects_long P rest c.args.t c.args.store.now c.requires.bounded h))

@@ -17,4 +17,4 @@ returns-in-115 c = λ P rest bytes h. rw (c.in-115.is, h.specials)
 
 pub returns-in_default : goal.returns-in_default
 unfolding full_of
-returns-in_default c = λ P rest bytes h. rw (ne_eqb _ _ c.in_default.rest.0.0.1, ne_eqb _ _ c.in_default.rest.0.1, ne_eqb _ _ c.in_default.rest.1)
+returns-in_default c = λ P rest bytes h. rw (ne_eqb _ _ c.in_default.in_default-own.rest.0.0.1, ne_eqb _ _ c.in_default.in_default-own.rest.0.1, ne_eqb _ _ c.in_default.in_default-own.rest.1)

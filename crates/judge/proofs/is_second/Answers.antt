@@ -36,11 +36,11 @@ unfolding is_second
 returns-in_default c P rest sound h noted =
     rw (
       ← c.byte.ensures,
-      ne_eqb _ _ c.in_default.rest.0.0.0.0.0.0.1,
-      ne_eqb _ _ c.in_default.rest.0.0.0.0.0.1,
-      ne_eqb _ _ c.in_default.rest.0.0.0.0.1,
-      ne_eqb _ _ c.in_default.rest.0.0.0.1,
-      ne_eqb _ _ c.in_default.rest.0.0.1,
-      ne_eqb _ _ c.in_default.rest.0.1,
-      ne_eqb _ _ c.in_default.rest.1,
+      ne_eqb _ _ c.in_default.in_default-own.rest.0.0.0.0.0.0.1,
+      ne_eqb _ _ c.in_default.in_default-own.rest.0.0.0.0.0.1,
+      ne_eqb _ _ c.in_default.in_default-own.rest.0.0.0.0.1,
+      ne_eqb _ _ c.in_default.in_default-own.rest.0.0.0.1,
+      ne_eqb _ _ c.in_default.in_default-own.rest.0.0.1,
+      ne_eqb _ _ c.in_default.in_default-own.rest.0.1,
+      ne_eqb _ _ c.in_default.in_default-own.rest.1,
     )

@@ -8,13 +8,11 @@ loop-i-init c = (search rules, omega arith)
 
 pub returns-then-text-i-eq-LF : goal.returns-then-text-i-eq-LF
 returns-then-text-i-eq-LF c =
-    let l = c.before.before.before in
-    omega (arith, line_hit l.args.text.now l.loop-i.i c.loop-i-test.true c.if-text-i-eq-LF.true)
+    omega (arith, line_hit c.args.text.now c.loop-i.i c.loop-i-test.true c.if-text-i-eq-LF.true)
 
 pub loop-i-preserved : goal.loop-i-preserved
 loop-i-preserved c =
-    let l = c.before.before.before in
-    (search rules, omega (arith, line_miss l.args.text.now l.loop-i.i c.loop-i-test.true c.if-text-i-eq-LF.false))
+    (search rules, omega (arith, line_miss c.args.text.now c.loop-i.i c.loop-i-test.true c.if-text-i-eq-LF.false))
 
 pub returns : goal.returns
 returns c = omega (arith, line-end c.args.text.now c.loop-i.i c.loop-i-test.false)

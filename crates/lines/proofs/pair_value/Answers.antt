@@ -7,19 +7,16 @@ use Rattle.lines.proofs.Values.{value_most, pair-sum}
 use Rattle.lines.proofs.pair_value.Goals as goal
 
 pub overflow_mul-value : goal.overflow_mul-value
-overflow_mul-value c = let s = c.before in omega (arith, value_most s.args.values.now s.requires s.args.a (search rules))
+overflow_mul-value c = omega (arith, value_most c.args.values.now c.requires c.args.a (search rules))
 
 pub overflow_add-value : goal.overflow_add-value
 overflow_add-value c =
-    let s = c.before.before in
-    omega (arith, value_most s.args.values.now s.requires s.args.a (search rules), value_most s.args.values.now s.requires s.args.b (search rules))
+    omega (arith, value_most c.args.values.now c.requires c.args.a (search rules), value_most c.args.values.now c.requires c.args.b (search rules))
 
 pub returns-then-value-gt255 : goal.returns-then-value-gt255
 returns-then-value-gt255 c =
-    let s = c.before.before.before in
-    (pair-sum s.args.a s.args.b _ (ap₂ (λ (x y : ℕ). x * 16 + y) (s.requires.is s.args.a (search rules)) (s.requires.is s.args.b (search rules)))).0 c.if-value-gt255.true
+    (pair-sum c.args.a c.args.b _ (ap₂ (λ (x y : ℕ). x * 16 + y) (c.requires.is c.args.a (search rules)) (c.requires.is c.args.b (search rules)))).0 c.if-value-gt255.true
 
 pub returns : goal.returns
 returns c =
-    let s = c.before.before.before in
-    (pair-sum s.args.a s.args.b _ (ap₂ (λ (x y : ℕ). x * 16 + y) (s.requires.is s.args.a (search rules)) (s.requires.is s.args.b (search rules)))).1 c.if-value-gt255.false
+    (pair-sum c.args.a c.args.b _ (ap₂ (λ (x y : ℕ). x * 16 + y) (c.requires.is c.args.a (search rules)) (c.requires.is c.args.b (search rules)))).1 c.if-value-gt255.false

@@ -20,9 +20,8 @@ slice_bounds-refusal-end c = sym (frame_long c.args.text.now _ (c.decode_first-c
 
 pub refusal-number-requires : goal.refusal-number-requires
 refusal-number-requires c =
-    let s = c.before.before.before.before.before.before.before.before.before in
     let sized = frame_sized c.args.text.now _ (c.decode_first-count.ensures.whole c.if-count-eq0.false) c.if-count-eq0.false in
-    (s.requires.can_read.bounded, (sized.0, sized.1, omega (arith, frame_long c.args.text.now _ (c.decode_first-count.ensures.whole c.if-count-eq0.false) c.if-count-eq0.false), s.requires.digits.2, s.requires.digits.1))
+    record { bounded = c.requires.can_read.bounded; le_size = (sized.0, sized.1, omega (arith, frame_long c.args.text.now _ (c.decode_first-count.ensures.whole c.if-count-eq0.false) c.if-count-eq0.false), c.requires.digits.2, c.requires.digits.1) }
 
 pub returns-then-number-ne0 : goal.returns-then-number-ne0
 returns-then-number-ne0 c =
@@ -37,9 +36,8 @@ slice_bounds-add-end c = sym (frame_long c.args.text.now _ (c.decode_first-count
 
 pub add-tally-requires : goal.add-tally-requires
 add-tally-requires c =
-    let s = c.before.before.before.before.before.before.before.before.before.before.before.before.before.before.before in
-    let args = s.args in
-    (can-add c.args.text.now _ (c.decode_first-count.ensures.whole c.if-count-eq0.false) c.if-count-eq0.false args.t args.last args.before args.store.now args.marks.now _ c.refusal-number.ensures c.if-number-ne0.false s.requires.can_read, s.requires.digits.1)
+    let args = c.args in
+    record { ready = can-add c.args.text.now _ (c.decode_first-count.ensures.whole c.if-count-eq0.false) c.if-count-eq0.false args.t args.last args.before args.store.now args.marks.now _ c.refusal-number.ensures c.if-number-ne0.false c.requires.can_read; in_bounds = c.requires.digits.1 }
 
 pub slice_bounds-note-end : goal.slice_bounds-note-end
 slice_bounds-note-end c = sym (frame_long c.args.text.now _ (c.decode_first-count.ensures.whole c.if-count-eq0.false) c.if-count-eq0.false)
@@ -57,6 +55,5 @@ overflow_add-size c = omega (arith, frame_sized c.args.text.now _ (c.decode_firs
 
 pub returns : goal.returns
 returns c =
-    let s = c.before.before.before.before.before.before.before.before.before.before.before.before.before.before.before.before.before.before.before.before.before.before.before in
-    let args = s.args in
-    line_added c.args.text.now _ (c.decode_first-count.ensures.whole c.if-count-eq0.false) c.if-count-eq0.false args.t args.last args.before args.store.now args.marks.now _ c.refusal-number.ensures c.if-number-ne0.false s.requires.can_read _ c.byte-kind.ensures _ _ _ c.add-tally.ensures c.note.ensures
+    let args = c.args in
+    line_added c.args.text.now _ (c.decode_first-count.ensures.whole c.if-count-eq0.false) c.if-count-eq0.false args.t args.last args.before args.store.now args.marks.now _ c.refusal-number.ensures c.if-number-ne0.false c.requires.can_read _ c.byte-kind.ensures _ _ _ c.add-tally.ensures c.note.ensures

@@ -13,7 +13,7 @@ loop-e-preserved c =
     let s = c.args.store.now in
     let loop = c.loop-e in
     let note = c.note_objects in
-    (omega arith, note.auto.1.1.0 ∙ loop.invariant.1, rw add-one (note.ensures ∙ ap (objects_noted s loop.e (object_count s loop.e)) loop.invariant.2))
+    (omega arith, note.auto.index ∙ loop.invariant.1, rw add-one (note.ensures ∙ ap (objects_noted s loop.e (object_count s loop.e)) loop.invariant.2))
 
 pub returns : goal.returns
 returns c =

@@ -26,7 +26,7 @@ slice_bounds-take_rows-end-in-loop-q c = omega arith
 pub take_rows-requires : goal.take_rows-requires
 take_rows-requires c =
     let pre = c.requires.entries_value in
-    ((ap length pre.0 ∙ entry_index_long _, ap length pre.1 ∙ object_index_long _, omega arith), (omega arith, omega arith, omega arith, omega arith))
+    record { entries_len = (ap length pre.0 ∙ entry_index_long _, ap length pre.1 ∙ object_index_long _, omega arith); tops_len = (omega arith, omega arith, omega arith, omega arith) }
 
 pub loop-q-preserved : goal.loop-q-preserved
 loop-q-preserved c =
@@ -34,16 +34,16 @@ loop-q-preserved c =
     let loop = c.loop-q in
     let took = c.take_rows in (
       omega arith,
-      took.auto.1.1.1.1.1.0 ∙ loop.invariant.1,
-      took.auto.1.1.1.1.1.1.1.0 ∙ loop.invariant.2,
-      took.auto.1.1.1.1.0 ∙ loop.invariant.3,
-      took.auto.1.1.1.1.1.1.0 ∙ loop.invariant.4,
+      took.auto.force ∙ loop.invariant.1,
+      took.auto.places ∙ loop.invariant.2,
+      took.auto.tops ∙ loop.invariant.3,
+      took.auto.most ∙ loop.invariant.4,
       λ P rest L named.
           let known : loop.q < length P.paths = omega (arith, c.path_count-count.ensures, path-count L) in
           let grade = c.grade_beside-grade.ensures P rest L named (c.path-file.ensures.bytes ∙ path_read L args.c) known in
           let t = loop.invariant.5 P rest L named in (
-            tops_more 32 args.entries.now (grade_of P _) loop.q loop.tops loop.force _ _ (rw grade at took.ensures.0) t.0,
-            tops_more 64 args.objects.now (grade_of P _) loop.q loop.most loop.places _ _ (rw grade at took.ensures.1) t.1,
+            tops_more 32 args.entries.now (grade_of P _) loop.q loop.tops loop.force _ _ (rw grade at took.ensures.path_taken) t.0,
+            tops_more 64 args.objects.now (grade_of P _) loop.q loop.most loop.places _ _ (rw grade at took.ensures.path_taken_2) t.1,
           ),
     )
 

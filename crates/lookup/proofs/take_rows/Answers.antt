@@ -9,7 +9,7 @@ use Rattle.lookup.proofs.Taking.{path-none}
 use Rattle.lookup.proofs.take_rows.Goals as goal
 
 pub returns-then-grade-eq0 : goal.returns-then-grade-eq0
-returns-then-grade-eq0 c = rw c.if-grade-eq0.true (path-none _ _ _ 32, path-none _ _ _ 64)
+returns-then-grade-eq0 c = rw c.if-grade-eq0.true (record { path_taken = path-none _ _ _ 32; path_taken_2 = path-none _ _ _ 64 })
 
 pub returns : goal.returns
 returns c =
@@ -19,4 +19,4 @@ returns c =
     let entry : q * 64 + 64 - q * 64 ≡ 64 = omega arith in
     let roles : length (row_of 32 q args.entries.now) ≡ 32 = part_length (q * 32) 32 args.entries.now (omega arith) in
     let entries : length (row_of 64 q args.objects.now) ≡ 64 = part_length (q * 64) 64 args.objects.now (omega arith) in
-    (rw (role, roles) at c.take_path.ensures, rw (entry, entries) at c.take_path-2.ensures)
+    record { path_taken = rw (role, roles) at c.take_path.ensures; path_taken_2 = rw (entry, entries) at c.take_path-2.ensures }

@@ -19,9 +19,9 @@ returns-in-42 c =
 pub returns-in_default : goal.returns-in_default
 unfolding plain
 returns-in_default c =
-    let other = c.in_default.rest.1 in
+    let other = c.in_default.in_default-own.rest.1 in
     rw (
-      ne_eqb _ 0 c.in_default.rest.0.1,
+      ne_eqb _ 0 c.in_default.in_default-own.rest.0.1,
       ne_eqb _ 0x2a (λ e. other (inl e)),
       ne_eqb _ 0x3f (λ e. other (inr (inl e))),
       ne_eqb _ 0x5b (λ e. other (inr (inr e))),

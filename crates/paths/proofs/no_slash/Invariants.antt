@@ -1,6 +1,7 @@
 -- `paths::no_slash` meets its contract. The invariant: no slash is from `from` on exactly where none is from i on.
 use Prim.Native.Nat.{◌-◌}
 use mathlib.Core.Path.{◌≡◌}
+use mathlib.Core.List.{[]}
 use lib.ListN.{length, drop}
 use Rattle.paths.specs.Path.{ended, first}
 use Rattle.paths.proofs.no_slash.Given as goal

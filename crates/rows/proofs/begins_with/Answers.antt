@@ -9,13 +9,11 @@ loop-i-init c = (search rules, refl)
 
 pub returns-then-key-i : goal.returns-then-key-i
 returns-then-key-i c =
-    let l = c.before.before.before.before in
-    sym (l.loop-i.invariant.1 ∙ begins_other _ _ _ c.loop-i-test.true (omega arith) c.if-key-i.true)
+    sym (c.loop-i.invariant.1 ∙ begins_other _ _ _ c.loop-i-test.true (omega arith) c.if-key-i.true)
 
 pub loop-i-preserved : goal.loop-i-preserved
 loop-i-preserved c =
-    let l = c.before.before.before.before in
-    (search rules, l.loop-i.invariant.1 ∙ begins-same _ _ _ c.loop-i-test.true (omega arith) c.if-key-i.false)
+    (search rules, c.loop-i.invariant.1 ∙ begins-same _ _ _ c.loop-i-test.true (omega arith) c.if-key-i.false)
 
 pub returns : goal.returns
 returns c = sym (c.loop-i.invariant.1 ∙ begins-end _ _ _ c.loop-i-test.false)

@@ -16,15 +16,14 @@ loop-i-init c = (search rules, fill_none _ 0, refl)
 pub loop-i-preserved : goal.loop-i-preserved
 unfolding zeros
 loop-i-preserved c =
-    let l = c.before in (
+    (
       search rules,
-      ap (λ (t : List ℕ). set t l.loop-i.i 0) l.loop-i.invariant.1 ∙ fill_more l.loop-i.i 0 l.args.part.now (omega arith),
-      simp length-set l.loop-i.invariant.2,
+      ap (λ (t : List ℕ). set t c.loop-i.i 0) c.loop-i.invariant.1 ∙ fill_more c.loop-i.i 0 c.args.part.now (omega arith),
+      simp length-set c.loop-i.invariant.2,
     )
 
 pub returns : goal.returns
 unfolding zeros
 returns c =
-    let l = c.before in
-    let end : l.loop-i.i ≡ length l.args.part.now = omega arith in
-    l.loop-i.invariant.1 ∙ rw (end, drop-length) (append-nil _)
+    let end : c.loop-i.i ≡ length c.args.part.now = omega arith in
+    c.loop-i.invariant.1 ∙ rw (end, drop-length) (append-nil _)

@@ -12,14 +12,12 @@ overflow_add-end c = omega (arith, row_room c.args.width c.loop-left.left c.loop
 
 pub returns-then-begins_with : goal.returns-then-begins_with
 returns-then-begins_with c =
-    let l = c.before.before.before.before in
-    sym (l.loop-left.invariant.1 ∙ rows_more _ _ _ _ _ c.loop-left-test.true true (sym c.begins_with.ensures ∙ c.if-begins_with.true))
+    sym (c.loop-left.invariant.1 ∙ rows_more _ _ _ _ _ c.loop-left-test.true true (sym c.begins_with.ensures ∙ c.if-begins_with.true))
 
 pub loop-left-preserved : goal.loop-left-preserved
 loop-left-preserved c =
-    let l = c.before.before.before.before in
     let t = c.loop-left-test.true in
-    (omega (arith, row_room l.args.width l.loop-left.left t), l.loop-left.invariant.1 ∙ rows_more _ _ _ _ _ t false (sym c.begins_with.ensures ∙ c.if-begins_with.false))
+    (omega (arith, row_room c.args.width c.loop-left.left t), c.loop-left.invariant.1 ∙ rows_more _ _ _ _ _ t false (sym c.begins_with.ensures ∙ c.if-begins_with.false))
 
 pub returns : goal.returns
 returns c = sym (c.loop-left.invariant.1 ∙ rows_end _ _ _ _ c.loop-left-test.false)

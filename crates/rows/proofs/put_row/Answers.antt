@@ -14,12 +14,11 @@ loop-i-init c = (search rules, paste-zero _ c.args.at c.args.row.now, refl)
 
 pub loop-i-preserved : goal.loop-i-preserved
 loop-i-preserved c =
-    let l = c.before.before in
-    let a = l.args in (
+    let a = c.args in (
       search rules,
-      ap (λ (t : List ℕ). set t (a.at + l.loop-i.i) (get_or a.row.now l.loop-i.i 0)) l.loop-i.invariant.1
-          ∙ rw add-one (paste-suc a.table.now a.at a.row.now l.loop-i.i 0 (omega arith) c.loop-i-test.true),
-      simp length-set l.loop-i.invariant.2,
+      ap (λ (t : List ℕ). set t (a.at + c.loop-i.i) (get_or a.row.now c.loop-i.i 0)) c.loop-i.invariant.1
+          ∙ rw add-one (paste-suc a.table.now a.at a.row.now c.loop-i.i 0 (omega arith) c.loop-i-test.true),
+      simp length-set c.loop-i.invariant.2,
     )
 
 pub returns : goal.returns

@@ -32,17 +32,16 @@ slice_bounds-fill_rows-count c = omega arith
 
 pub returns : goal.returns
 returns c P rest L listed =
-    let s = c.before.before.before.before.before.before.before.before.before.before.before.before.before.before.before.before.before.before.before.before.before.before.before in
-    let args = s.args in
+    let args = c.args in
     let a = c.copy in
     let b = c.fill_stands in
     let d = c.fill_tests in
     let e = c.fill_rows in
-    let one = parts_more 96 a.new.1.0 (parts_none args.t.now s.requires.t_len) (omega arith) a.auto.1.0 in
-    let two = parts_more 96 b.new.1.1.0 one (omega arith) b.auto.1.1.0 in
-    let three = parts_more 1856 d.new.1.1.1.1.0 two (omega arith) d.auto.1.1.1.1.0 in
-    let four = parts_more 6144 e.new.1.1.0 three (omega arith) e.auto.1.1.0 in
+    let one = parts_more 96 a.new.part (parts_none args.t.now c.requires.t_len) (omega arith) a.auto.part in
+    let two = parts_more 96 b.new.part one (omega arith) b.auto.part in
+    let three = parts_more 1856 d.new.part two (omega arith) d.auto.part in
+    let four = parts_more 6144 e.new.part three (omega arith) e.auto.part in
     let count : 32 + c.subject_count-count.result - 32 ≡ subject_count args.store.now =
     omega (arith, c.subject_count-count.ensures) in
-    let own = ap (λ (n : ℕ). take n (drop 32 args.lists.now)) count ∙ subjects_are L args.lists.now s.requires.lists_len listed in
-    tabled_of L args.lists.now s.requires.lists_len listed _ _ _ _ _ _ _ four a.ensures own b.ensures (d.ensures P rest L listed) e.ensures
+    let own = ap (λ (n : ℕ). take n (drop 32 args.lists.now)) count ∙ subjects_are L args.lists.now c.requires.lists_len listed in
+    tabled_of L args.lists.now c.requires.lists_len listed _ _ _ _ _ _ _ four a.ensures own b.ensures (d.ensures P rest L listed) e.ensures

@@ -9,14 +9,13 @@ loop-e-init c = (omega arith, refl, region-none c.args.store.now (Grants c.args.
 
 pub loop-e-preserved : goal.loop-e-preserved
 loop-e-preserved c =
-    let s = c.before.before.before.before.before.before.before.before.before.before.before.before in
     let l = c.loop-e in
     let grants-in = c.grants_in-test in
     let flag = c.flag in (
       omega arith,
       omega (arith, c.put.auto.part),
       rw c.put.ensures
-          (region_more s.args.store.now (Grants s.args.kind s.args.of.now) l.e flag.result l.part l.invariant.2 (λ P rest L f graded h. rw flag.ensures (holds_flag grants-in.result) ∙ grants-in.ensures P rest f L graded h)),
+          (region_more c.args.store.now (Grants c.args.kind c.args.of.now) l.e flag.result l.part l.invariant.2 (λ P rest L f graded h. rw flag.ensures (holds_flag grants-in.result) ∙ grants-in.ensures P rest f L graded h)),
     )
 
 pub returns : goal.returns

@@ -19,9 +19,8 @@ offered-test-requires c = c.requires.named
 
 pub overflow_add-at : goal.overflow_add-at
 overflow_add-at c =
-    let s = c.before.before.before.before.before.before.before.before in
-    let few = few-cells s.args.row (length s.args.choices.now) s.ranges.row.fits s.requires.at_value.1 in
-    record { fits = omega (arith, c.loop-j.invariant, c.loop-j-test.true, s.requires.at_value, few) }
+    let few = few-cells c.args.row (length c.args.choices.now) c.ranges.row.fits c.requires.at_value.1 in
+    record { fits = omega (arith, c.loop-j.invariant, c.loop-j-test.true, c.requires.at_value, few) }
 
 pub loop-j-smaller : goal.loop-j-smaller
 loop-j-smaller c = omega arith
@@ -40,9 +39,8 @@ loop-j-preserved c =
 
 pub returns : goal.returns
 returns c counted before =
-    let s = c.before.before.before.before.before in
-    let args = s.args in
+    let args = c.args in
     let end : c.loop-j.j ≡ args.count = omega arith in
     region_past args.store.now (Offers args.kind args.choices.now) (args.at + args.count) (args.at + length args.choices.now) c.loop-j.part
     (rw end at (c.loop-j.invariant.2 before))
-    (λ P rest L i v. offers_past P args.kind args.choices.now args.row args.at s.requires.at_value.0 args.count i v (counted P rest L))
+    (λ P rest L i v. offers_past P args.kind args.choices.now args.row args.at c.requires.at_value.0 args.count i v (counted P rest L))

@@ -19,15 +19,12 @@ loop-row-init c =
 
 pub fill_offer_row-requires : goal.fill_offer_row-requires
 fill_offer_row-requires c =
-    let pre = c.before.before.before.before.before.before.before.requires in
-    (pre.0, (c.loop-row.invariant.2, pre.1, c.choice_count-count.ensures.0))
+    record { named = c.requires.named; at_value = (c.loop-row.invariant.2, c.requires.choices_len_bound, c.choice_count-count.ensures.0) }
 
 pub overflow_add-at : goal.overflow_add-at
 overflow_add-at c =
-    let s = c.before.before.before.before.before.before.before.before.before.before in
-    let d = c.before.before.before.before in
-    let row : d.loop-row.row < 256 = omega (arith, d.loop-row-test.true, s.ranges.rows.fits) in
-    record { fits = omega (arith, d.loop-row.invariant.2, s.requires.choices_len_bound, few-cells d.loop-row.row (length s.args.choices.now) row s.requires.choices_len_bound) }
+    let row : c.loop-row.row < 256 = omega (arith, c.loop-row-test.true, c.ranges.rows.fits) in
+    record { fits = omega (arith, c.loop-row.invariant.2, c.requires.choices_len_bound, few-cells c.loop-row.row (length c.args.choices.now) row c.requires.choices_len_bound) }
 
 pub loop-row-smaller : goal.loop-row-smaller
 loop-row-smaller c = omega arith

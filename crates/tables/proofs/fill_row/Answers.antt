@@ -27,11 +27,10 @@ slice_bounds-copy-count-2 c = omega arith
 
 pub returns : goal.returns
 returns c =
-    let s = c.before.before.before.before.before.before.before.before.before.before.before.before.before.before.before.before.before.before.before in
-    let args = s.args in
+    let args = c.args in
     let force = c.copy in
     let places = c.copy-2 in
     let at = 32 * args.k in
     let behind = 2048 + 64 * args.k in
-    row-filled args.k (at + 32 - at) (behind + 64 - behind) args.part.now force.new.1.0 places.new.1.0 s.requires.k_bound s.requires.part_len (omega arith) (omega arith) force.auto.1.0 places.auto.1.0
+    row-filled args.k (at + 32 - at) (behind + 64 - behind) args.part.now force.new.part places.new.part c.requires.k_bound c.requires.part_len (omega arith) (omega arith) force.auto.part places.auto.part
     args.c (λ P rest L named. rw (force.ensures, places.ensures) (c.rows_of.ensures P rest L named))

@@ -18,7 +18,7 @@ loop-k-preserved c =
     let row = c.fill_row in (
       omega arith,
       loop.invariant.1,
-      omega (arith, row.auto.1.1.1.1.1.0),
+      omega (arith, row.auto.part),
       rows_more args.store.now args.subjects.now loop.k loop.part _ (omega arith) (omega arith) loop.invariant.3 row.ensures,
     )
 

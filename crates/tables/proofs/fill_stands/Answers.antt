@@ -9,12 +9,11 @@ loop-c-init c = (omega arith, refl, region-none c.args.store.now (Stands c.args.
 
 pub loop-c-preserved : goal.loop-c-preserved
 loop-c-preserved c =
-    let s = c.before.before.before.before.before.before.before.before.before.before.before in
     let l = c.loop-c in (
       omega arith,
       omega (arith, c.put.auto.part),
       rw c.put.ensures
-          (region_more s.args.store.now (Stands s.args.subjects.now) l.c c.stand-v.result l.part l.invariant.2 c.stand-v.ensures),
+          (region_more c.args.store.now (Stands c.args.subjects.now) l.c c.stand-v.result l.part l.invariant.2 c.stand-v.ensures),
     )
 
 pub returns : goal.returns

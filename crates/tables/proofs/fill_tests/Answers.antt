@@ -18,9 +18,7 @@ pub slice_bounds-fill_offers-count-2 : goal.slice_bounds-fill_offers-count-2
 slice_bounds-fill_offers-count-2 c = omega arith
 
 pub fill_offers-requires : goal.fill_offers-requires
-fill_offers-requires c =
-    let s = c.before.before.before.before.before.before.before.before.before.before.before.before.before.before.before.before in
-    (λ other. absurd (other refl), omega (arith, part_length 0 8 s.args.lists.now (omega (arith, s.requires.lists_len))))
+fill_offers-requires c = record { named = λ other. absurd (other refl); choices_len_bound = omega (arith, part_length 0 8 c.args.lists.now (omega (arith, c.requires.lists_len))) }
 
 pub slice_bounds-put-count : goal.slice_bounds-put-count
 slice_bounds-put-count c = omega arith
@@ -32,9 +30,7 @@ pub slice_bounds-fill_offers-count-4 : goal.slice_bounds-fill_offers-count-4
 slice_bounds-fill_offers-count-4 c = omega arith
 
 pub fill_offers-requires-2 : goal.fill_offers-requires-2
-fill_offers-requires-2 c =
-    let s = c.before.before.before.before.before.before.before.before.before.before.before.before.before.before.before.before.before.before.before.before.before.before.before.before.before in
-    (λ other. inr refl, omega (arith, part_length 24 8 s.args.lists.now (omega (arith, s.requires.lists_len))))
+fill_offers-requires-2 c = record { named = λ other. inr refl; choices_len_bound = omega (arith, part_length 24 8 c.args.lists.now (omega (arith, c.requires.lists_len))) }
 
 pub slice_bounds-fill_offers-count-5 : goal.slice_bounds-fill_offers-count-5
 slice_bounds-fill_offers-count-5 c = omega arith
@@ -43,28 +39,25 @@ pub slice_bounds-fill_offers-count-6 : goal.slice_bounds-fill_offers-count-6
 slice_bounds-fill_offers-count-6 c = omega arith
 
 pub fill_offers-requires-3 : goal.fill_offers-requires-3
-fill_offers-requires-3 c =
-    let s = c.before.before.before.before.before.before.before.before.before.before.before.before.before.before.before.before.before.before.before.before.before.before.before.before.before.before.before.before.before.before in
-    (λ other. inl refl, omega (arith, part_length 8 16 s.args.lists.now (omega (arith, s.requires.lists_len))))
+fill_offers-requires-3 c = record { named = λ other. inl refl; choices_len_bound = omega (arith, part_length 8 16 c.args.lists.now (omega (arith, c.requires.lists_len))) }
 
 pub returns : goal.returns
 returns c P rest L listed =
-    let s = c.before.before.before.before.before.before.before.before.before.before.before.before.before.before.before.before.before.before.before.before.before.before.before.before.before.before.before.before.before.before.before.before.before in
     let grades-for = c.grades_for-g in
-    let args = s.args in
+    let args = c.args in
     let a =
     c.fill_grants in
     let b = c.fill_offers in
     let d = c.put in
     let e = c.fill_offers-2 in
     let f = c.fill_offers-3 in
-    let one = parts_more 64 a.last.1.1.1.0 (parts_none args.part.now s.requires.part_len) (omega arith) a.kept.1.1.1.0 in
-    let two = parts_more 240 b.new.1.1.1.1.0 one (omega arith) b.auto.1.1.1.1.0 in
-    let three = parts_more 16 d.new.0 two (omega arith) d.auto.0 in
-    let four = parts_more 512 e.new.1.1.1.1.0 three (omega arith) e.auto.1.1.1.1.0 in
-    let five = parts_more 1024 f.new.1.1.1.1.0 four (omega arith) f.auto.1.1.1.1.0 in
-    let lent = mid_of 304 16 (put_mid 64 240 (put_mid 0 64 args.part.now a.last.1.1.1.0) b.new.1.1.1.1.0) in
-    tests_of L args.lists.now s.requires.lists_len listed args.kind
+    let one = parts_more 64 a.new.part (parts_none args.part.now c.requires.part_len) (omega arith) a.auto.part in
+    let two = parts_more 240 b.new.part one (omega arith) b.auto.part in
+    let three = parts_more 16 d.new.part two (omega arith) d.auto.part in
+    let four = parts_more 512 e.new.part three (omega arith) e.auto.part in
+    let five = parts_more 1024 f.new.part four (omega arith) f.auto.part in
+    let lent = mid_of 304 16 (put_mid 64 240 (put_mid 0 64 args.part.now a.new.part) b.new.part) in
+    tests_of L args.lists.now c.requires.lists_len listed args.kind
     c.role_count-roles.result
     c.entry_count-entries.result
     c.default_role-fallback.result

@@ -5,26 +5,21 @@ use native.Mathlib.Omega.{arith}
 use Rattle.judge.specs.Noted.{weighed, digest_of}
 use Rattle.judge.proofs.Noting.{weighed-next, weighed-end, product_most}
 use Rattle.judge.proofs.noted.digest.Goals as goal
-use Rattle.judge.proofs.noted.digest.Lts as lts
-
--- what a byte adds
-added : (c : lts.After-wide) → let l = c.before.before.before.loop in (l.i + 1) * c.wide.result ≤ 20480
-added c = product_most _ _ (omega arith) (omega (arith, c.wide.ensures.1))
 
 pub loop-i-init : goal.loop-i-init
 loop-i-init c = (omega arith, c.requires, omega arith, sym (zero-add _))
 
 pub overflow_mul-sum : goal.overflow_mul-sum
-overflow_mul-sum c = omega (arith, added c)
+overflow_mul-sum c = omega (arith, product_most (c.loop-i.i + 1) c.wide.result (omega arith) (omega (arith, c.wide.ensures.1)))
 
 pub overflow_add-sum-in-loop-i : goal.overflow_add-sum-in-loop-i
-overflow_add-sum-in-loop-i c = omega (arith, added c)
+overflow_add-sum-in-loop-i c = omega (arith, product_most (c.loop-i.i + 1) c.wide.result (omega arith) (omega (arith, c.wide.ensures.1)))
 
 pub loop-i-preserved : goal.loop-i-preserved
 loop-i-preserved c =
     let path = c.args.path.now in
     let l = c.loop-i in
-    (omega arith, l.invariant.1, omega (arith, added c), l.invariant.3 ∙ weighed-next path l.i l.sum c.wide.result c.loop-i-test.true c.wide.ensures.0)
+    (omega arith, l.invariant.1, omega (arith, product_most (c.loop-i.i + 1) c.wide.result (omega arith) (omega (arith, c.wide.ensures.1))), l.invariant.3 ∙ weighed-next path l.i l.sum c.wide.result c.loop-i-test.true c.wide.ensures.0)
 
 pub returns : goal.returns
 unfolding digest_of

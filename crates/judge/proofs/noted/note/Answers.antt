@@ -14,6 +14,5 @@ returns-then-byte-ne32 c P noted =
 pub returns : goal.returns
 unfolding path_from
 returns c P noted =
-    let s = c.before.before.before.before.before.before in
     let type = eq-eqb _ _ (sym c.byte.ensures ∙ c.if-byte-ne32.false) in
-    rw c.digest-at.ensures.0 (noted_added P (frame_in s.args.size s.args.bytes.now) s.args.marks.now type (omega (arith, c.digest-at.ensures, s.requires)) noted)
+    rw c.digest-at.ensures.0 (noted_added P (frame_in c.args.size c.args.bytes.now) c.args.marks.now type (omega (arith, c.digest-at.ensures, c.requires)) noted)

@@ -41,12 +41,12 @@ unfolding in_range
 returns-in_default c P rest sound h =
     rw (
       ← c.byte.ensures,
-      ne_eqb _ _ c.in_default.rest.0.0.0.0.0.0.0.1,
-      ne_eqb _ _ c.in_default.rest.0.0.0.0.0.0.1,
-      ne_eqb _ _ c.in_default.rest.0.0.0.0.0.1,
-      ne_eqb _ _ c.in_default.rest.0.0.0.0.1,
-      ne_eqb _ _ c.in_default.rest.0.0.0.1,
-      ne_eqb _ _ c.in_default.rest.0.0.1,
-      ne_eqb _ _ c.in_default.rest.0.1,
-      ne_eqb _ _ c.in_default.rest.1,
+      ne_eqb _ _ c.in_default.in_default-own.rest.0.0.0.0.0.0.0.1,
+      ne_eqb _ _ c.in_default.in_default-own.rest.0.0.0.0.0.0.1,
+      ne_eqb _ _ c.in_default.in_default-own.rest.0.0.0.0.0.1,
+      ne_eqb _ _ c.in_default.in_default-own.rest.0.0.0.0.1,
+      ne_eqb _ _ c.in_default.in_default-own.rest.0.0.0.1,
+      ne_eqb _ _ c.in_default.in_default-own.rest.0.0.1,
+      ne_eqb _ _ c.in_default.in_default-own.rest.0.1,
+      ne_eqb _ _ c.in_default.in_default-own.rest.1,
     )

@@ -12,48 +12,44 @@ returns-then-roles-wide c = λ P rest held h size. rw (le-ltb (get_or c.args.byt
 pub returns-then-t-wide : goal.returns-then-t-wide
 unfolding good_entry
 returns-then-t-wide c P rest held h size =
-    let s = c.before.before.before.before.before.before.before.before.before.before.before in
     rw (
-      lt-ltb (get_or s.args.bytes.now 1 0) (length P.roles)
+      lt-ltb (get_or c.args.bytes.now 1 0) (length P.roles)
           (omega (arith, h.roles, c.wide.ensures.0, c.byte.ensures)),
-      le-ltb (get_or s.args.bytes.now 2 0) (length P.paths) (omega (arith, h.paths, c.wide-2.ensures.0, c.byte-2.ensures)),
+      le-ltb (get_or c.args.bytes.now 2 0) (length P.paths) (omega (arith, h.paths, c.wide-2.ensures.0, c.byte-2.ensures)),
     )
 
 pub returns-then-byte-ge4 : goal.returns-then-byte-ge4
 unfolding good_entry
 returns-then-byte-ge4 c P rest held h size =
-    let s = c.before.before.before.before.before.before.before.before.before.before.before.before.before in
     rw (
-      lt-ltb (get_or s.args.bytes.now 1 0) (length P.roles)
+      lt-ltb (get_or c.args.bytes.now 1 0) (length P.roles)
           (omega (arith, h.roles, c.wide.ensures.0, c.byte.ensures)),
-      lt-ltb (get_or s.args.bytes.now 2 0) (length P.paths)
+      lt-ltb (get_or c.args.bytes.now 2 0) (length P.paths)
           (omega (arith, h.paths, c.wide-2.ensures.0, c.byte-2.ensures)),
-      le-ltb (get_or s.args.bytes.now 3 0) 4 (omega (arith, c.byte-3.ensures)),
+      le-ltb (get_or c.args.bytes.now 3 0) 4 (omega (arith, c.byte-3.ensures)),
     )
 
 pub returns-then-byte-gt2 : goal.returns-then-byte-gt2
 unfolding good_entry
 returns-then-byte-gt2 c P rest held h size =
-    let s = c.before.before.before.before.before.before.before.before.before.before.before.before.before.before.before in
     rw (
-      lt-ltb (get_or s.args.bytes.now 1 0) (length P.roles)
+      lt-ltb (get_or c.args.bytes.now 1 0) (length P.roles)
           (omega (arith, h.roles, c.wide.ensures.0, c.byte.ensures)),
-      lt-ltb (get_or s.args.bytes.now 2 0) (length P.paths)
+      lt-ltb (get_or c.args.bytes.now 2 0) (length P.paths)
           (omega (arith, h.paths, c.wide-2.ensures.0, c.byte-2.ensures)),
-      lt-ltb (get_or s.args.bytes.now 3 0) 4 (omega (arith, c.byte-3.ensures)),
-      lt-leb (get_or s.args.bytes.now 4 0) 2 (omega (arith, c.byte-4.ensures)),
+      lt-ltb (get_or c.args.bytes.now 3 0) 4 (omega (arith, c.byte-3.ensures)),
+      lt-leb (get_or c.args.bytes.now 4 0) 2 (omega (arith, c.byte-4.ensures)),
     )
 
 pub returns : goal.returns
 unfolding good_entry
 returns c P rest held h size =
-    let s = c.before.before.before.before.before.before.before.before.before.before.before.before.before.before.before.before in
     rw (
-      lt-ltb (get_or s.args.bytes.now 1 0) (length P.roles)
+      lt-ltb (get_or c.args.bytes.now 1 0) (length P.roles)
           (omega (arith, h.roles, c.wide.ensures.0, c.byte.ensures)),
-      lt-ltb (get_or s.args.bytes.now 2 0) (length P.paths)
+      lt-ltb (get_or c.args.bytes.now 2 0) (length P.paths)
           (omega (arith, h.paths, c.wide-2.ensures.0, c.byte-2.ensures)),
-      lt-ltb (get_or s.args.bytes.now 3 0) 4 (omega (arith, c.byte-3.ensures)),
-      le-leb (get_or s.args.bytes.now 4 0) 2 (omega (arith, c.byte-4.ensures)),
+      lt-ltb (get_or c.args.bytes.now 3 0) 4 (omega (arith, c.byte-3.ensures)),
+      le-leb (get_or c.args.bytes.now 4 0) 2 (omega (arith, c.byte-4.ensures)),
       ← c.byte-5.ensures,
     )

@@ -13,22 +13,20 @@ returns-then-roles-from c = λ P rest sound h size. rw (le-ltb (get_or c.args.by
 pub returns-then-roles-special : goal.returns-then-roles-special
 unfolding good_move
 returns-then-roles-special c P rest sound h size =
-    let s = c.before.before.before.before.before.before.before.before.before.before.before in
     rw (
-      lt-ltb (get_or s.args.bytes.now 1 0) (length P.roles)
+      lt-ltb (get_or c.args.bytes.now 1 0) (length P.roles)
           (omega (arith, h.roles, c.wide-from.ensures.0, c.byte.ensures)),
-      le-ltb (get_or s.args.bytes.now 2 0) (length P.roles) (omega (arith, h.roles, c.wide-special.ensures.0, c.byte-2.ensures)),
+      le-ltb (get_or c.args.bytes.now 2 0) (length P.roles) (omega (arith, h.roles, c.wide-special.ensures.0, c.byte-2.ensures)),
     )
 
 pub returns : goal.returns
 unfolding good_move
 returns c P rest sound h size =
-    let s = c.before.before.before.before.before.before.before.before.before.before.before.before in
-    let kind = role-kind P rest s.args.t s.args.store.now s.requires.bounded h c.wide-special.result (omega (arith, h.roles)) in
+    let kind = role-kind P rest c.args.t c.args.store.now c.requires.bounded h c.wide-special.result (omega (arith, h.roles)) in
     rw (
-      lt-ltb (get_or s.args.bytes.now 1 0) (length P.roles)
+      lt-ltb (get_or c.args.bytes.now 1 0) (length P.roles)
           (omega (arith, h.roles, c.wide-from.ensures.0, c.byte.ensures)),
-      lt-ltb (get_or s.args.bytes.now 2 0) (length P.roles) (omega (arith, h.roles, c.wide-special.ensures.0, c.byte-2.ensures)),
+      lt-ltb (get_or c.args.bytes.now 2 0) (length P.roles) (omega (arith, h.roles, c.wide-special.ensures.0, c.byte-2.ensures)),
       kind,
       c.wide-special.ensures.0,
       c.byte-2.ensures,

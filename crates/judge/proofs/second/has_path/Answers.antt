@@ -1,4 +1,5 @@
 use mathlib.Core.Bool.{true, false}
+use mathlib.Core.List.{[]}
 use Rattle.gran.proofs.Lists.{any_next, any-end}
 use Rattle.paths.specs.Path.{same}
 use native.Mathlib.Omega.{arith}

@@ -14,8 +14,7 @@ returns-then-kind-eq115 c = λ P rest sound h. rw c.if-kind-eq115.true
 pub returns : goal.returns
 unfolding has_role four
 returns c P rest sound h =
-    let s = c.before.before.before.before.before.before.before.before.before in
-    let a = s.args in
+    let a = c.args in
     c.has_row.ensures
     ∙ rw (c.id_bytes-number.ensures, ne_eqb _ _ c.if-kind-eq115.false)
-    (found-role P rest a.t a.store.now s.requires.bounded h sound a.kind a.id (omega arith))
+    (found-role P rest a.t a.store.now c.requires.bounded h sound a.kind a.id (omega arith))

@@ -11,19 +11,16 @@ loop-k-init c = (omega arith, refl)
 
 pub returns-then-size-wide : goal.returns-then-size-wide
 returns-then-size-wide c =
-    let l = c.before.before.before.before.before.before in
-    sym (l.loop-k.invariant.1 ∙ this_type frame_table (frame_type 0 0 0) l.loop-k.k l.args.kind l.args.size (omega arith) c.if-known-kind.true ∙ simp (lt-leb _ _ (rw c.wide.ensures.0 at c.if-size-wide.true)))
+    sym (c.loop-k.invariant.1 ∙ this_type frame_table (frame_type 0 0 0) c.loop-k.k c.args.kind c.args.size (omega arith) c.if-known-kind.true ∙ simp (lt-leb _ _ (rw c.wide.ensures.0 at c.if-size-wide.true)))
 
 pub returns-then-known-kind : goal.returns-then-known-kind
 returns-then-known-kind c =
-    let l = c.before.before.before.before.before.before.before in
-    ap (leb l.args.size) c.wide-then-known-kind.ensures.0
-    ∙ sym (l.loop-k.invariant.1 ∙ this_type frame_table (frame_type 0 0 0) l.loop-k.k l.args.kind l.args.size (omega arith) c.if-known-kind.true ∙ simp (le-leb _ _ (rw c.wide.ensures.0 at c.if-size-wide.false)))
+    ap (leb c.args.size) c.wide-then-known-kind.ensures.0
+    ∙ sym (c.loop-k.invariant.1 ∙ this_type frame_table (frame_type 0 0 0) c.loop-k.k c.args.kind c.args.size (omega arith) c.if-known-kind.true ∙ simp (le-leb _ _ (rw c.wide.ensures.0 at c.if-size-wide.false)))
 
 pub loop-k-preserved : goal.loop-k-preserved
 loop-k-preserved c =
-    let l = c.before.before.before.before in
-    (omega arith, l.loop-k.invariant.1 ∙ other_type frame_table (frame_type 0 0 0) l.loop-k.k l.args.kind l.args.size (omega arith) c.if-known-kind.false)
+    (omega arith, c.loop-k.invariant.1 ∙ other_type frame_table (frame_type 0 0 0) c.loop-k.k c.args.kind c.args.size (omega arith) c.if-known-kind.false)
 
 pub returns : goal.returns
 returns c = sym (c.loop-k.invariant.1 ∙ no_type frame_table (frame_type 0 0 0) c.loop-k.k _ _ c.loop-k-test.false)
