@@ -17,7 +17,6 @@ use Rattle.gran.specs.Exec.{exec_may}
 use Rattle.gran.specs.Good.{Good, GoodEntry}
 use Rattle.gran.specs.Real
 use Rattle.gran.specs.Abstract
-use Rattle.gran.specs.declared.State.{State}
 use Rattle.gran.specs.Abstract.{abstract, abstract_act, real_act, id_for, id_after, reaches, image, executed}
 use Rattle.paths.proofs.Bools.{decide, both, parts₄, parts₅, left, right, or_left, or_right, either, eqb_of, eqb-to}
 use Rattle.gran.proofs.Policies.{Known, role_of_known, in_force_known, may_take_known, entry_in_good, entry_in-abstract, image_sound, image_complete, reaches_of, reaches_allowed, reaches-role, object_most}

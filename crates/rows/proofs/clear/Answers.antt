@@ -15,12 +15,11 @@ loop-i-init c = (search rules, fill_none _ 0, refl)
 
 pub loop-i-preserved : goal.loop-i-preserved
 unfolding zeros
-loop-i-preserved c =
-    (
-      search rules,
-      ap (λ (t : List ℕ). set t c.loop-i.i 0) c.loop-i.invariant.1 ∙ fill_more c.loop-i.i 0 c.args.part.now (omega arith),
-      simp length-set c.loop-i.invariant.2,
-    )
+loop-i-preserved c = (
+  search rules,
+  ap (λ (t : List ℕ). set t c.loop-i.i 0) c.loop-i.invariant.1 ∙ fill_more c.loop-i.i 0 c.args.part.now (omega arith),
+  simp length-set c.loop-i.invariant.2,
+)
 
 pub returns : goal.returns
 unfolding zeros
