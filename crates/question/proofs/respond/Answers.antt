@@ -8,7 +8,7 @@ use Rattle.question.proofs.respond.Goals as goal
 pub returns : goal.returns
 unfolding path_from
 returns c =
-    let s = c.before.before.before.before.before.before.before.before.before.before.before.before.before.before.before.before.before.before.before.before.before.before.before.before.before.before.before.before.before in
+    let s = c in
     responded
     s.args.text.now
     (asked_by s.args.question s.args.start s.args.target)
