@@ -13,12 +13,16 @@ use Rattle.leveecrumb.proofs.ask.Goals as goal
 use Rattle.leveecrumb.proofs.ask.Goals.{Else-number-ne0}
 
 long : (e : Else-number-ne0) → 24576 ≤ length e.args.work.now
-long e = let s = e in let asked : Asked = record { uid = s.args.uid; gid = s.args.gid; start = s.args.start.now; target = s.args.target.now; kind = s.args.kind } in let lent : Areas = record { store = s.args.store.now; work = s.args.work.now; room = s.args.room.now } in long_enough 24576 (length lent.work) s.args.text.now asked lent _ _ _ e.loaded-o.ensures e.if-number-ne0.false
+long e =
+    let asked : Asked = record { uid = e.args.uid; gid = e.args.gid; start = e.args.start.now; target = e.args.target.now; kind = e.args.kind } in
+    let lent : Areas = record { store = e.args.store.now; work = e.args.work.now; room = e.args.room.now } in
+    long_enough 24576 (length lent.work) e.args.text.now asked lent _ _ _ e.loaded-o.ensures e.if-number-ne0.false
 
 pub returns-then-number-ne0 : goal.returns-then-number-ne0
 returns-then-number-ne0 c =
-    let s = c in let asked : Asked = record { uid = s.args.uid; gid = s.args.gid; start = s.args.start.now; target = s.args.target.now; kind = s.args.kind } in let lent : Areas = record { store = s.args.store.now; work = s.args.work.now; room = s.args.room.now } in
-    comes-refused 24576 (length lent.work) s.args.text.now asked lent _ _ _ c.loaded-o.ensures c.if-number-ne0.true
+    let asked : Asked = record { uid = c.args.uid; gid = c.args.gid; start = c.args.start.now; target = c.args.target.now; kind = c.args.kind } in
+    let lent : Areas = record { store = c.args.store.now; work = c.args.work.now; room = c.args.room.now } in
+    comes-refused 24576 (length lent.work) c.args.text.now asked lent _ _ _ c.loaded-o.ensures c.if-number-ne0.true
 
 pub slice_bounds-area-end : goal.slice_bounds-area-end
 slice_bounds-area-end c = long (goal.at.slice_bounds-area-end c).Else-number-ne0
@@ -28,17 +32,17 @@ slice_bounds-area-end-2 c = sym (length-take-le 24576 c.args.work.now (long (goa
 
 pub respond-requires : goal.respond-requires
 respond-requires c =
-    let e = c in
-    let s = c in let asked : Asked = record { uid = s.args.uid; gid = s.args.gid; start = s.args.start.now; target = s.args.target.now; kind = s.args.kind } in let lent : Areas = record { store = s.args.store.now; work = s.args.work.now; room = s.args.room.now } in
-    let held = holds_after 24576 (length lent.work) s.args.text.now asked lent _ _ _ e.loaded-o.ensures e.if-number-ne0.false in
+    let asked : Asked = record { uid = c.args.uid; gid = c.args.gid; start = c.args.start.now; target = c.args.target.now; kind = c.args.kind } in
+    let lent : Areas = record { store = c.args.store.now; work = c.args.work.now; room = c.args.room.now } in
+    let held = holds_after 24576 (length lent.work) c.args.text.now asked lent _ _ _ c.loaded-o.ensures c.if-number-ne0.false in
     let zero = c.clear.ensures ∙ ap zeros (length-take-le 24576 lent.work (long (goal.at.respond-requires c).Else-number-ne0)) in
     record { held = held; blank = blank_of _ 24576 zero (omega (arith, held_few held)) }
 
 pub returns : goal.returns
 returns c =
-    let e = c in
-    let s = c in let asked : Asked = record { uid = s.args.uid; gid = s.args.gid; start = s.args.start.now; target = s.args.target.now; kind = s.args.kind } in let lent : Areas = record { store = s.args.store.now; work = s.args.work.now; room = s.args.room.now } in
+    let asked : Asked = record { uid = c.args.uid; gid = c.args.gid; start = c.args.start.now; target = c.args.target.now; kind = c.args.kind } in
+    let lent : Areas = record { store = c.args.store.now; work = c.args.work.now; room = c.args.room.now } in
     let d = c.respond.ensures in
     let cleared = c.clear in
     let same = ap length cleared.ensures ∙ length-zeros _ ∙ length-take-le 24576 lent.work (long (goal.at.returns c).Else-number-ne0) in
-    comes_answered 24576 (length lent.work) s.args.text.now asked lent _ _ _ e.loaded-o.ensures e.if-number-ne0.false _ _ _ (d.cleared ∙ ap zeros same) d.answers
+    comes_answered 24576 (length lent.work) c.args.text.now asked lent _ _ _ c.loaded-o.ensures c.if-number-ne0.false _ _ _ (d.cleared ∙ ap zeros same) d.answers

@@ -9,10 +9,8 @@ asked s = record { uid = s.args.uid; gid = s.args.gid; start = s.args.start.now;
 
 pub returns-then-refusal-ne0 : goal.returns-then-refusal-ne0
 returns-then-refusal-ne0 c =
-    let s = c in
-    loads-early s.args.text.now (asked (goal.at.returns-then-refusal-ne0 c).Start) s.args.work s.args.store.now _ c.early-refusal.ensures c.if-refusal-ne0.true
+    loads-early c.args.text.now (asked (goal.at.returns-then-refusal-ne0 c).Start) c.args.work c.args.store.now _ c.early-refusal.ensures c.if-refusal-ne0.true
 
 pub returns : goal.returns
 returns c =
-    let s = c in
-    loads-after s.args.text.now (asked (goal.at.returns c).Start) s.args.work s.args.store.now _ c.early-refusal.ensures c.if-refusal-ne0.false _ _ _ c.load.ensures
+    loads-after c.args.text.now (asked (goal.at.returns c).Start) c.args.work c.args.store.now _ c.early-refusal.ensures c.if-refusal-ne0.false _ _ _ c.load.ensures

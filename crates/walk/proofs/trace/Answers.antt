@@ -9,23 +9,21 @@ use Rattle.walk.proofs.trace.Goals as goal
 use Rattle.walk.proofs.trace.Goals.{In-loop-at}
 
 -- What a turn knows of its numbers.
-bounds : (c : In-loop-at) → let s = c in let l = c.loop-at in
-    (l.n + l.at ≤ s.args.k) × (s.args.k < s.requires.0.all) × (s.requires.0.all ≤ 8192) × (3 * s.requires.0.all ≤ length s.args.area.now) × (s.args.k ≤ length s.args.out.now) × (length l.out ≡ length s.args.out.now)
-    × (queued s.args.area.now l.at < s.requires.0.all)
+bounds : (c : In-loop-at) → let l = c.loop-at in
+    (l.n + l.at ≤ c.args.k) × (c.args.k < c.requires.0.all) × (c.requires.0.all ≤ 8192) × (3 * c.requires.0.all ≤ length c.args.area.now) × (c.args.k ≤ length c.args.out.now) × (length l.out ≡ length c.args.out.now)
+    × (queued c.args.area.now l.at < c.requires.0.all)
 bounds c =
-    let s = c in
     let l = c.loop-at in
-    let few : l.n + l.at ≤ s.args.k = l.invariant.falls in
-    (few, s.requires.0.within, s.requires.0.few, s.requires.0.long, s.requires.1, back-length s.args.area.now s.args.k s.requires.0 s.requires.1 l.invariant, s.requires.0.small l.at (omega arith))
+    let few : l.n + l.at ≤ c.args.k = l.invariant.falls in
+    (few, c.requires.0.within, c.requires.0.few, c.requires.0.long, c.requires.1, back-length c.args.area.now c.args.k c.requires.0 c.requires.1 l.invariant, c.requires.0.small l.at (omega arith))
 
-parent : (c : In-loop-at) → let s = c in let l = c.loop-at in
-    (0 < mark s.args.area.now (queued s.args.area.now l.at)) × (mark s.args.area.now (queued s.args.area.now l.at) ≤ l.at)
+parent : (c : In-loop-at) → let l = c.loop-at in
+    (0 < mark c.args.area.now (queued c.args.area.now l.at)) × (mark c.args.area.now (queued c.args.area.now l.at) ≤ l.at)
 parent c =
-    let s = c in
     let l = c.loop-at in
-    let few : l.n + l.at ≤ s.args.k = l.invariant.falls in
+    let few : l.n + l.at ≤ c.args.k = l.invariant.falls in
     let some : 0 < l.at = omega arith in
-    s.requires.0.earlier l.at some (omega arith)
+    c.requires.0.earlier l.at some (omega arith)
 
 pub loop-at-init : goal.loop-at-init
 loop-at-init c = starts c.args.area.now c.args.k c.args.out.now
@@ -74,13 +72,11 @@ loop-at-smaller c = omega (arith, (parent (goal.at.loop-at-smaller c).In-loop-at
 
 pub loop-at-preserved : goal.loop-at-preserved
 loop-at-preserved c =
-    let s = c in
     let l = c.loop-at in
-    goes_back s.args.area.now s.args.k s.requires.0 s.requires.1 l.invariant c.loop-at-test.true
+    goes_back c.args.area.now c.args.k c.requires.0 c.requires.1 l.invariant c.loop-at-test.true
 
 pub returns : goal.returns
 returns c =
-    let s = c in
     let l = c.loop-at in
-    let all : trail s.args.area.now 8192 s.args.k ≡ l.invariant.done = back_ends s.args.area.now s.args.k s.requires.0 s.requires.1 l.invariant c.loop-at-test.false in
-    record { size = sym (ap length all ∙ l.invariant.size); kept = l.invariant.written ∙ ap (λ (x : List ℕ). x ++ drop l.n s.args.out.now) (sym all) }
+    let all : trail c.args.area.now 8192 c.args.k ≡ l.invariant.done = back_ends c.args.area.now c.args.k c.requires.0 c.requires.1 l.invariant c.loop-at-test.false in
+    record { size = sym (ap length all ∙ l.invariant.size); kept = l.invariant.written ∙ ap (λ (x : List ℕ). x ++ drop l.n c.args.out.now) (sym all) }

@@ -12,7 +12,7 @@ use Rattle.walk.proofs.wipe.Goals as goal
 use Rattle.walk.proofs.wipe.Goals.{After-all_states-size}
 
 -- The rest, with the states as they were counted.
-rest : (c : After-all_states-size) → let s = c in Rest c.all_states-size.result s.args.area.now
+rest : (c : After-all_states-size) → Rest c.all_states-size.result c.args.area.now
 rest c = rw c.all_states-size.ensures c.requires.1
 
 pub overflow_mul-size : goal.overflow_mul-size
@@ -26,7 +26,6 @@ slice_bounds-clear-end-2 c = sym (length-take-le (3 * c.all_states-size.result) 
 
 pub returns : goal.returns
 returns c =
-    let a = c in
-    let area = a.args.area.now in
-    let size : ℕ = 3 * a.all_states-size.result in
+    let area = c.args.area.now in
+    let size : ℕ = 3 * c.all_states-size.result in
     ap (λ (l : List ℕ). l ++ drop size area) (c.clear.ensures ∙ ap zeros (length-take-le size area (rest (goal.at.returns c).After-all_states-size).long)) ∙ rest-none (rest (goal.at.returns c).After-all_states-size)

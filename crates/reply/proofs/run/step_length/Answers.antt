@@ -34,6 +34,5 @@ bounds-area-to c = omega (arith, (here (goal.at.bounds-area-to c).Start).room)
 
 pub returns : goal.returns
 returns c g σ =
-    let s = c in
-    let m = g.traced.marked s.args.k (s.args.n - 1 - s.args.k) (omega (arith, s.requires.1)) in
-    c.label_length.ensures g.policy σ (state_after g.from g.acts s.args.k) (act_of g.acts s.args.k) g.good m.may m.label
+    let m = g.traced.marked c.args.k (c.args.n - 1 - c.args.k) (omega (arith, c.requires.1)) in
+    c.label_length.ensures g.policy σ (state_after g.from g.acts c.args.k) (act_of g.acts c.args.k) g.good m.may m.label

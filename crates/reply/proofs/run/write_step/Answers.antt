@@ -20,13 +20,11 @@ here : (s : Start) → let g = s.requires.wrote.0 in
 here s = s.requires.wrote.0.traced.marked s.args.k (s.args.n - s.args.k - 1) (last s.args.k s.args.n s.requires.k_lt_n)
 
 -- Its record.
-shown : (c : After-step_shown-step) → let s = c in
-    (g : Writable s.args.store.now s.args.t.now s.args.area.now s.args.out.now s.args.n s.args.z) → Wrote g s.args.k s.args.w s.args.room.now
-    → c.step_shown-step.result ≡ record_of (policy_in s.args.store.now) (state_of (policy_in s.args.store.now) g.begin s.args.w.process) (act_of g.acts s.args.k)
+shown : (c : After-step_shown-step) → (g : Writable c.args.store.now c.args.t.now c.args.area.now c.args.out.now c.args.n c.args.z) → Wrote g c.args.k c.args.w c.args.room.now
+    → c.step_shown-step.result ≡ record_of (policy_in c.args.store.now) (state_of (policy_in c.args.store.now) g.begin c.args.w.process) (act_of g.acts c.args.k)
 shown c g x =
-    let s = c in
-    let m = g.traced.marked s.args.k (s.args.n - s.args.k - 1) (last s.args.k s.args.n s.requires.k_lt_n) in
-    c.step_shown-step.ensures (policy_in s.args.store.now) _ g.question g.begin (state_after g.from g.acts s.args.k) (act_of g.acts s.args.k) g.ready.held x.going m.may x.from m.state m.label
+    let m = g.traced.marked c.args.k (c.args.n - c.args.k - 1) (last c.args.k c.args.n c.requires.k_lt_n) in
+    c.step_shown-step.ensures (policy_in c.args.store.now) _ g.question g.begin (state_after g.from g.acts c.args.k) (act_of g.acts c.args.k) g.ready.held x.going m.may x.from m.state m.label
 
 pub overflow_mul-to : goal.overflow_mul-to
 overflow_mul-to c = omega (arith, (here (goal.at.overflow_mul-to c).Start).place)
@@ -51,15 +49,13 @@ bounds-area-to c = omega (arith, (here (goal.at.bounds-area-to c).Start).room)
 
 pub put_step-at-requires : goal.put_step-at-requires
 put_step-at-requires c =
-    let s = c in
-    let g = s.requires.wrote.0 in
-    let x = s.requires.wrote.1 in
-    line-fits g s.args.k (s.args.n - s.args.k - 1) (last s.args.k s.args.n s.requires.k_lt_n) x c.step_shown-step.result (shown (goal.at.put_step-at-requires c).After-step_shown-step g x)
+    let g = c.requires.wrote.0 in
+    let x = c.requires.wrote.1 in
+    line-fits g c.args.k (c.args.n - c.args.k - 1) (last c.args.k c.args.n c.requires.k_lt_n) x c.step_shown-step.result (shown (goal.at.put_step-at-requires c).After-step_shown-step g x)
 
 pub returns : goal.returns
 returns c g x =
-    let s = c in
-    let m = g.traced.marked s.args.k (s.args.n - s.args.k - 1) (last s.args.k s.args.n s.requires.k_lt_n) in
+    let m = g.traced.marked c.args.k (c.args.n - c.args.k - 1) (last c.args.k c.args.n c.requires.k_lt_n) in
     let e = shown (goal.at.returns c).After-step_shown-step g x in
-    wrote_more g s.args.k (s.args.n - s.args.k - 1) (last s.args.k s.args.n s.requires.k_lt_n) x c.step_shown-step.result e _ _ _ _ c.put_step-at.ensures m.state
-    (c.process_after-after.ensures (policy_in s.args.store.now) g.begin (act_of g.acts s.args.k) g.ready.held.good (may_here g s.args.k (s.args.n - s.args.k - 1) (last s.args.k s.args.n s.requires.k_lt_n) x) e)
+    wrote_more g c.args.k (c.args.n - c.args.k - 1) (last c.args.k c.args.n c.requires.k_lt_n) x c.step_shown-step.result e _ _ _ _ c.put_step-at.ensures m.state
+    (c.process_after-after.ensures (policy_in c.args.store.now) g.begin (act_of g.acts c.args.k) g.ready.held.good (may_here g c.args.k (c.args.n - c.args.k - 1) (last c.args.k c.args.n c.requires.k_lt_n) x) e)

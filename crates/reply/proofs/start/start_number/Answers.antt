@@ -12,14 +12,12 @@ use Rattle.reply.proofs.start.start_number.Goals as goal
 use Rattle.reply.proofs.start.start_number.Goals.{After-closest_in-subject}
 
 -- What is read are the start's places.
-digits : (c : After-closest_in-subject) → let s = c in
-    record { special = 0; user = c.place_in-user.result; group = c.place_in-group.result; subject = c.closest_in-subject.result }
-    ≡ places_of (policy_in s.args.store.now) (abstract (policy_in s.args.store.now) (Real.start s.args.uid s.args.gid s.args.start.now))
+digits : (c : After-closest_in-subject) → record { special = 0; user = c.place_in-user.result; group = c.place_in-group.result; subject = c.closest_in-subject.result }
+    ≡ places_of (policy_in c.args.store.now) (abstract (policy_in c.args.store.now) (Real.start c.args.uid c.args.gid c.args.start.now))
 digits c =
-    let s = c in
-    let r = s.requires.1 in
+    let r = c.requires.1 in
     let L = r.held in
-    start_digits r s.args.uid s.args.gid s.args.start.now _ _ _ _ _
+    start_digits r c.args.uid c.args.gid c.args.start.now _ _ _ _ _
     c.place_in-user.ensures (c.role_of.ensures _ _ L) c.place_in-group.ensures (c.role_of-2.ensures _ _ L) (c.closest_in-subject.ensures _ _ L (subjects_part r))
 
 pub overflow_add-users : goal.overflow_add-users
@@ -51,10 +49,9 @@ closest_in-subject-requires c = rw length-take (omega (arith, (ready_sized c.req
 
 pub number-requires : goal.number-requires
 number-requires c =
-    let s = c in
-    let P = policy_in s.args.store.now in
-    let r = s.requires.1 in
-    (ready_sized r, rw (digits (goal.at.number-requires c).After-closest_in-subject, r.sizes) (places_among P (abstract P (Real.start s.args.uid s.args.gid s.args.start.now)) (start_inside r s.args.uid s.args.gid s.args.start.now)))
+    let P = policy_in c.args.store.now in
+    let r = c.requires.1 in
+    (ready_sized r, rw (digits (goal.at.number-requires c).After-closest_in-subject, r.sizes) (places_among P (abstract P (Real.start c.args.uid c.args.gid c.args.start.now)) (start_inside r c.args.uid c.args.gid c.args.start.now)))
 
 pub returns : goal.returns
 unfolding state_number

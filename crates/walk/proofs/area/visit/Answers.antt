@@ -21,13 +21,12 @@ small : (s : Start) → (s.args.n < 8192) × (3 * s.args.n + 2 < length s.args.a
 small s = omega (arith, s.requires.1, s.requires.0.sized.few, s.requires.0.kept.long)
 
 -- And so does the queue's next place.
-room : (c : Else-area-at-ne0) → let s = c in (s.args.w.count < 8192) × (3 * s.args.w.count < length s.args.area.now)
+room : (c : Else-area-at-ne0) → (c.args.w.count < 8192) × (3 * c.args.w.count < length c.args.area.now)
 room c =
-    let s = c in
-    omega (arith, kept_below s.args.z s.requires.0.sized.few s.requires.0.kept s.args.n s.requires.1 c.if-area-at-ne0.false, s.requires.0.sized.few, s.requires.0.kept.long)
+    omega (arith, kept_below c.args.z c.requires.0.sized.few c.requires.0.kept c.args.n c.requires.1 c.if-area-at-ne0.false, c.requires.0.sized.few, c.requires.0.kept.long)
 
 pub returns-then-met-eq1 : goal.returns-then-met-eq1
-returns-then-met-eq1 c = let s = c in sym (visit_met (goal_at s.args.t.now s.args.z) s.args.p s.args.c s.args.n (memory (goal.at.returns-then-met-eq1 c).Start) (eq-eqb _ _ c.if-met-eq1.true))
+returns-then-met-eq1 c = sym (visit_met (goal_at c.args.t.now c.args.z) c.args.p c.args.c c.args.n (memory (goal.at.returns-then-met-eq1 c).Start) (eq-eqb _ _ c.if-met-eq1.true))
 
 pub overflow_mul-at : goal.overflow_mul-at
 overflow_mul-at c = omega (arith, small (goal.at.overflow_mul-at c).Start)
@@ -42,7 +41,7 @@ pub bounds-area-at : goal.bounds-area-at
 bounds-area-at c = omega (arith, small (goal.at.bounds-area-at c).Start)
 
 pub returns-then-area-at-ne0 : goal.returns-then-area-at-ne0
-returns-then-area-at-ne0 c = let s = c in sym (visit_old (goal_at s.args.t.now s.args.z) s.args.p s.args.c s.args.n (memory (goal.at.returns-then-area-at-ne0 c).Start) (ne_eqb _ _ c.if-met-eq1.false) c.if-area-at-ne0.true)
+returns-then-area-at-ne0 c = sym (visit_old (goal_at c.args.t.now c.args.z) c.args.p c.args.c c.args.n (memory (goal.at.returns-then-area-at-ne0 c).Start) (ne_eqb _ _ c.if-met-eq1.false) c.if-area-at-ne0.true)
 
 pub overflow_mul-place : goal.overflow_mul-place
 overflow_mul-place c = omega (arith, room (goal.at.overflow_mul-place c).Else-area-at-ne0)
@@ -88,5 +87,4 @@ is_goal-goal-requires c = c.requires.0.sized
 
 pub returns : goal.returns
 returns c =
-    let s = c in
-    rw (c.flag-last.ensures, c.is_goal-goal.ensures) (sym (visit_new (goal_at s.args.t.now s.args.z) s.args.p s.args.c s.args.n (memory (goal.at.returns c).Start) (ne_eqb _ _ c.if-met-eq1.false) c.if-area-at-ne0.false))
+    rw (c.flag-last.ensures, c.is_goal-goal.ensures) (sym (visit_new (goal_at c.args.t.now c.args.z) c.args.p c.args.c c.args.n (memory (goal.at.returns c).Start) (ne_eqb _ _ c.if-met-eq1.false) c.if-area-at-ne0.false))

@@ -17,9 +17,8 @@ test c = let a = c.args in in_image a.t.now a.x.from a.x.place a.x.path
 few : (c : At-loop-k) → (c.loop-k.n ≤ c.loop-k.k) × (length c.loop-k.out ≡ length c.args.out.now)
 unfolding test
 few c =
-    let s = c in
     let l = c.loop-k in
-    (omega (arith, collected_few [] (test c) l.invariant.0), collected-length [] (test c) l.invariant.0 (omega (arith, l.invariant.1, s.requires.1)))
+    (omega (arith, collected_few [] (test c) l.invariant.0), collected-length [] (test c) l.invariant.0 (omega (arith, l.invariant.1, c.requires.1)))
 
 pub loop-k-init : goal.loop-k-init
 loop-k-init c = (record { size = refl; written = refl }, omega arith)
@@ -42,10 +41,8 @@ loop-k-smaller c = omega arith
 pub loop-k-preserved : goal.loop-k-preserved
 unfolding test
 loop-k-preserved c =
-    let at = c in
-    let s = at in
     let hit = c.in_image-hit in
-    (rw (c.keep-n.ensures.0, c.keep-n.ensures.1) (collect_turn [] (test (goal.at.loop-k-preserved c).At-loop-k) at.loop-k.invariant.0 (omega (arith, s.requires.1)) hit.result (sym hit.ensures)), omega arith)
+    (rw (c.keep-n.ensures.0, c.keep-n.ensures.1) (collect_turn [] (test (goal.at.loop-k-preserved c).At-loop-k) c.loop-k.invariant.0 (omega (arith, c.requires.1)) hit.result (sym hit.ensures)), omega arith)
 
 pub returns : goal.returns
 unfolding test image_of

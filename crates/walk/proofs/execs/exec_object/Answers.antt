@@ -32,12 +32,11 @@ seen c = read (λ (m : ℕ). sees m EXEC) c.object_modes.ensures c.executable.en
 
 pub exec_users-requires : goal.exec_users-requires
 exec_users-requires c =
-    let s = c in
-    let a = s.args in
-    let h = s.requires.1.1 in (
-      s.requires.0,
+    let a = c.args in
+    let h = c.requires.1.1 in (
+      c.requires.0,
       (
-        s.requires.1.0,
+        c.requires.1.0,
         (
           written_front c.collect-n.ensures,
           (

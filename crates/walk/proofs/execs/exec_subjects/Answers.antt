@@ -30,16 +30,14 @@ first c = row c.args.z c.args.d c.number-base.result c.number-base.ensures
 target : (c : In-loop-k) → c.number-base.result + get_or c.args.image.now c.loop-k.k 0 < all_states c.args.z
 unfolding image_of
 target c =
-    let s = c in
-    let x = s.args.x in
-    let at : ℕ = get_or s.args.image.now c.loop-k.k 0 in
-    let lt : at < s.args.z.subjects = listed_lt [] (in_image s.args.t.now x.from x.place x.path) s.args.z.subjects s.requires.1.1 tt c.loop-k.k c.loop-k-test.true in
-    rw (row c.args.z c.args.d c.number-base.result c.number-base.ensures at) (number_of_lt (among_subject s.requires.1.0 lt))
+    let x = c.args.x in
+    let at : ℕ = get_or c.args.image.now c.loop-k.k 0 in
+    let lt : at < c.args.z.subjects = listed_lt [] (in_image c.args.t.now x.from x.place x.path) c.args.z.subjects c.requires.1.1 tt c.loop-k.k c.loop-k-test.true in
+    rw (row c.args.z c.args.d c.number-base.result c.number-base.ensures at) (number_of_lt (among_subject c.requires.1.0 lt))
 
 pub number-base-requires : goal.number-base-requires
 number-base-requires c =
-    let s = c in
-    (s.requires.0.sized, among_subject s.requires.1.0 s.requires.0.sized.subjects.0)
+    (c.requires.0.sized, among_subject c.requires.1.0 c.requires.0.sized.subjects.0)
 
 pub overflow_cast-c : goal.overflow_cast-c
 overflow_cast-c c = omega arith
@@ -68,8 +66,7 @@ loop-k-preserved c = turns c.loop-k.invariant (omega arith) (target (goal.at.loo
 
 pub returns : goal.returns
 returns c =
-    let s = c in
-    let x = s.args.x in
+    let x = c.args.x in
     ends c.loop-k.invariant (omega arith)
-    ∙ ap (λ (xs : List Step). visits (goal_at s.args.t.now s.args.z) s.args.p xs (walk_of s.args.area.now s.args.w))
-    (image-steps s.args.t.now s.args.z s.args.d x.from x.place x.path c.number-base.result (first (goal.at.returns c).At-loop-k) s.args.image.now s.requires.1.1)
+    ∙ ap (λ (xs : List Step). visits (goal_at c.args.t.now c.args.z) c.args.p xs (walk_of c.args.area.now c.args.w))
+    (image-steps c.args.t.now c.args.z c.args.d x.from x.place x.path c.number-base.result (first (goal.at.returns c).At-loop-k) c.args.image.now c.requires.1.1)

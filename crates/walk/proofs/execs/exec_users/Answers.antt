@@ -20,16 +20,14 @@ use Rattle.walk.proofs.execs.exec_users.Goals.{After-group_count-n, In-loop-j}
 -- A user of the list is one of the choices.
 choice : (c : In-loop-j) → get_or c.args.users.now c.loop-j.j 0 < c.args.z.users
 choice c =
-    let s = c in
-    let a = s.args in
-    users_below a.t.now a.z a.d a.x.from s.requires.1.1.1.1.0 s.requires.1.0.user c.loop-j.j c.loop-j-test.true
+    let a = c.args in
+    users_below a.t.now a.z a.d a.x.from c.requires.1.1.1.1.0 c.requires.1.0.user c.loop-j.j c.loop-j-test.true
 
 -- Only the kept group, or all groups of the list.
 fits : (c : After-group_count-n) → c.group_count-n.result ≤ length c.args.groups.now
 fits c =
-    let s = c in
-    let a = s.args in
-    groups_fit a.t.now a.z a.d a.x.from (a.again && ltb 0 c.loop-j.j) s.requires.1.1.1.0 c.group_count-n.ensures
+    let a = c.args in
+    groups_fit a.t.now a.z a.d a.x.from (a.again && ltb 0 c.loop-j.j) c.requires.1.1.1.0 c.group_count-n.ensures
 
 pub loop-j-init : goal.loop-j-init
 loop-j-init c = let h = c.requires in (begins h.0, h.1.1.1.1.1)
@@ -42,14 +40,13 @@ slice_bounds-exec_groups-end c = sym (length-take-le c.group_count-n.result c.ar
 
 pub exec_groups-done-requires : goal.exec_groups-done-requires
 exec_groups-done-requires c =
-    let s = c in
-    let a = s.args in (
+    let a = c.args in (
       c.loop-j.invariant.0.going,
       (
-        among_user s.requires.1.0 (choice (goal.at.exec_groups-done-requires c).In-loop-j),
+        among_user c.requires.1.0 (choice (goal.at.exec_groups-done-requires c).In-loop-j),
         (
-          s.requires.1.1.0,
-          below_front a.z.groups a.groups.now (groups_below a.t.now a.z a.d a.x.from s.requires.1.1.1.0 s.requires.1.0.group) c.group_count-n.result (fits (goal.at.exec_groups-done-requires c).After-group_count-n),
+          c.requires.1.1.0,
+          below_front a.z.groups a.groups.now (groups_below a.t.now a.z a.d a.x.from c.requires.1.1.1.0 c.requires.1.0.group) c.group_count-n.result (fits (goal.at.exec_groups-done-requires c).After-group_count-n),
         ),
       ),
     )
@@ -78,8 +75,7 @@ loop-j-preserved c =
 
 pub returns : goal.returns
 returns c =
-    let s = c in
-    let a = s.args in
+    let a = c.args in
     let x = a.x in
     visits_as (goal_at a.t.now a.z) a.p (walk_of a.area.now a.w) (ends c.loop-j.invariant.0 c.loop-j-test.false)
-    (user-steps a.t.now a.z a.d x.from x.place x.path a.users.now s.requires.1.1.1.1.0)
+    (user-steps a.t.now a.z a.d x.from x.place x.path a.users.now c.requires.1.1.1.1.0)

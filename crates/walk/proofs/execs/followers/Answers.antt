@@ -22,10 +22,9 @@ first c = c.args.kept ∷ []
 few : (c : At-loop-j) → (c.loop-j.n ≤ c.loop-j.j + 1) × (length c.loop-j.out ≡ length c.args.out.now)
 unfolding test
 few c =
-    let s = c in
     let l = c.loop-j in
-    let long : length (set s.args.out.now 0 s.args.kept) ≡ length s.args.out.now = length-set s.args.out.now 0 s.args.kept in
-    (omega (arith, collected_few (first c) (test c) l.invariant.0), collected-length (first c) (test c) l.invariant.0 (omega (arith, l.invariant.1, s.requires.1.1.1)) ∙ long)
+    let long : length (set c.args.out.now 0 c.args.kept) ≡ length c.args.out.now = length-set c.args.out.now 0 c.args.kept in
+    (omega (arith, collected_few (first c) (test c) l.invariant.0), collected-length (first c) (test c) l.invariant.0 (omega (arith, l.invariant.1, c.requires.1.1.1)) ∙ long)
 
 pub overflow_cast-out : goal.overflow_cast-out
 overflow_cast-out c = omega arith
@@ -61,10 +60,9 @@ loop-j-smaller c = omega arith
 pub loop-j-preserved : goal.loop-j-preserved
 unfolding test
 loop-j-preserved c =
-    let on = c in
-    let a = on.args in
+    let a = c.args in
     let hit = c.is_another-hit in
-    (rw (c.keep-n.ensures.0, c.keep-n.ensures.1) (collect_turn (first (goal.at.loop-j-preserved c).At-loop-j) (test (goal.at.loop-j-preserved c).At-loop-j) on.loop-j.invariant.0 (omega (arith, length-set a.out.now 0 a.kept)) hit.result (sym hit.ensures)), omega arith)
+    (rw (c.keep-n.ensures.0, c.keep-n.ensures.1) (collect_turn (first (goal.at.loop-j-preserved c).At-loop-j) (test (goal.at.loop-j-preserved c).At-loop-j) c.loop-j.invariant.0 (omega (arith, length-set a.out.now 0 a.kept)) hit.result (sym hit.ensures)), omega arith)
 
 pub returns : goal.returns
 unfolding test followers_of
