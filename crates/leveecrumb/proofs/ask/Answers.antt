@@ -10,46 +10,39 @@ use Rattle.reply.proofs.Loads.{held_few, blank_of}
 use Rattle.ask.specs.Ask.{Asked, Areas}
 use Rattle.leveecrumb.proofs.Outcomes.{comes-refused, long_enough, holds_after, comes_answered}
 use Rattle.leveecrumb.proofs.ask.Goals as goal
-use Rattle.leveecrumb.proofs.ask.Lts as lts
+use Rattle.leveecrumb.proofs.ask.Goals.{Else-number-ne0}
 
-abbrev asked : lts.Start → Asked
-asked s = record { uid = s.args.uid; gid = s.args.gid; start = s.args.start.now; target = s.args.target.now; kind = s.args.kind }
-
-abbrev lent : lts.Start → Areas
-lent s = record { store = s.args.store.now; work = s.args.work.now; room = s.args.room.now }
-
--- ---- once the text is loaded
-
-abbrev begun : lts.Else-number-ne0 → lts.Start
-begun e = e.before.before.before.before.before.before.before.before.before.before.before
-
-long : (e : lts.Else-number-ne0) → 24576 ≤ length (lent (begun e)).work
-long e = let s = begun e in long_enough 24576 (length (lent s).work) s.args.text.now (asked s) (lent s) _ _ _ e.loaded-o.ensures e.if-number-ne0.false
+long : (e : Else-number-ne0) → 24576 ≤ length e.args.work.now
+long e =
+    let asked : Asked = record { uid = e.args.uid; gid = e.args.gid; start = e.args.start.now; target = e.args.target.now; kind = e.args.kind } in
+    let lent : Areas = record { store = e.args.store.now; work = e.args.work.now; room = e.args.room.now } in
+    long_enough 24576 (length lent.work) e.args.text.now asked lent _ _ _ e.loaded-o.ensures e.if-number-ne0.false
 
 pub returns-then-number-ne0 : goal.returns-then-number-ne0
 returns-then-number-ne0 c =
-    let s = c.before.before.before.before.before.before.before.before.before.before.before in
-    comes-refused 24576 (length (lent s).work) s.args.text.now (asked s) (lent s) _ _ _ c.loaded-o.ensures c.if-number-ne0.true
+    let asked : Asked = record { uid = c.args.uid; gid = c.args.gid; start = c.args.start.now; target = c.args.target.now; kind = c.args.kind } in
+    let lent : Areas = record { store = c.args.store.now; work = c.args.work.now; room = c.args.room.now } in
+    comes-refused 24576 (length lent.work) c.args.text.now asked lent _ _ _ c.loaded-o.ensures c.if-number-ne0.true
 
 pub slice_bounds-area-end : goal.slice_bounds-area-end
-slice_bounds-area-end c = long c
+slice_bounds-area-end c = long (goal.at.slice_bounds-area-end c).Else-number-ne0
 
 pub slice_bounds-area-end-2 : goal.slice_bounds-area-end-2
-slice_bounds-area-end-2 c = sym (length-take-le 24576 (lent (begun c.before)).work (long c.before))
+slice_bounds-area-end-2 c = sym (length-take-le 24576 c.args.work.now (long (goal.at.slice_bounds-area-end-2 c).Else-number-ne0))
 
 pub respond-requires : goal.respond-requires
 respond-requires c =
-    let e = c.before.before.before.before.before.before.before in
-    let s = begun e in
-    let held = holds_after 24576 (length (lent s).work) s.args.text.now (asked s) (lent s) _ _ _ e.loaded-o.ensures e.if1.false in
-    let zero = c.clear.ensures ∙ ap zeros (length-take-le 24576 (lent s).work (long e)) in
-    (held, blank_of _ 24576 zero (omega (arith, held_few held)))
+    let asked : Asked = record { uid = c.args.uid; gid = c.args.gid; start = c.args.start.now; target = c.args.target.now; kind = c.args.kind } in
+    let lent : Areas = record { store = c.args.store.now; work = c.args.work.now; room = c.args.room.now } in
+    let held = holds_after 24576 (length lent.work) c.args.text.now asked lent _ _ _ c.loaded-o.ensures c.if-number-ne0.false in
+    let zero = c.clear.ensures ∙ ap zeros (length-take-le 24576 lent.work (long (goal.at.respond-requires c).Else-number-ne0)) in
+    record { held = held; blank = blank_of _ 24576 zero (omega (arith, held_few held)) }
 
 pub returns : goal.returns
 returns c =
-    let e = c.before.before.before.before.before.before.before.before.before.before.before.before in
-    let s = begun e in
+    let asked : Asked = record { uid = c.args.uid; gid = c.args.gid; start = c.args.start.now; target = c.args.target.now; kind = c.args.kind } in
+    let lent : Areas = record { store = c.args.store.now; work = c.args.work.now; room = c.args.room.now } in
     let d = c.respond.ensures in
     let cleared = c.clear in
-    let same = ap length cleared.ensures ∙ length-zeros _ ∙ length-take-le 24576 (lent s).work (long e) in
-    comes_answered 24576 (length (lent s).work) s.args.text.now (asked s) (lent s) _ _ _ e.loaded-o.ensures e.if1.false _ _ _ (d.cleared ∙ ap zeros same) d.answers
+    let same = ap length cleared.ensures ∙ length-zeros _ ∙ length-take-le 24576 lent.work (long (goal.at.returns c).Else-number-ne0) in
+    comes_answered 24576 (length lent.work) c.args.text.now asked lent _ _ _ c.loaded-o.ensures c.if-number-ne0.false _ _ _ (d.cleared ∙ ap zeros same) d.answers

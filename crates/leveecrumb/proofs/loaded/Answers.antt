@@ -2,17 +2,15 @@
 use Rattle.ask.specs.Ask.{Asked}
 use Rattle.leveecrumb.proofs.Outcomes.{loads-early, loads-after}
 use Rattle.leveecrumb.proofs.loaded.Goals as goal
-use Rattle.leveecrumb.proofs.loaded.Lts as lts
+use Rattle.leveecrumb.proofs.loaded.Goals.{Start}
 
-abbrev asked : lts.Start → Asked
+abbrev asked : Start → Asked
 asked s = record { uid = s.args.uid; gid = s.args.gid; start = s.args.start.now; target = s.args.target.now; kind = s.args.kind }
 
 pub returns-then-refusal-ne0 : goal.returns-then-refusal-ne0
 returns-then-refusal-ne0 c =
-    let s = c.before.before.before.before.before.before in
-    loads-early s.args.text.now (asked s) s.args.work s.args.store.now _ c.early-refusal.ensures c.if-refusal-ne0.true
+    loads-early c.args.text.now (asked (goal.at.returns-then-refusal-ne0 c).Start) c.args.work c.args.store.now _ c.early-refusal.ensures c.if-refusal-ne0.true
 
 pub returns : goal.returns
 returns c =
-    let s = c.before.before.before.before.before.before.before.before.before.before in
-    loads-after s.args.text.now (asked s) s.args.work s.args.store.now _ c.early-refusal.ensures c.if-refusal-ne0.false _ _ _ c.load.ensures
+    loads-after c.args.text.now (asked (goal.at.returns c).Start) c.args.work c.args.store.now _ c.early-refusal.ensures c.if-refusal-ne0.false _ _ _ c.load.ensures

@@ -3,16 +3,16 @@ use Rattle.question.proofs.Checking.{misses-first, misses_second, misses_third, 
 use Rattle.question.proofs.check.Goals as goal
 
 pub returns-then-not-fits : goal.returns-then-not-fits
-returns-then-not-fits c = misses-first c.args.input.now _ c.line_at-one.ensures _ c.before.before.before.before.before.fits2.ensures c.if-not-fits.true-raw c.refuse.ensures
+returns-then-not-fits c = misses-first c.args.input.now _ c.line_at-one.ensures _ c.fits.ensures c.if-not-fits.true-raw c.refuse.ensures
 
 pub returns-then-not-fits-2 : goal.returns-then-not-fits-2
-returns-then-not-fits-2 c = misses_second c.args.input.now _ c.line_at-one.ensures _ c.fits-2.ensures c.if-not-fits.false-raw _ c.line_at-two.ensures _ c.before.before.before.before.before.fits3.ensures c.if-not-fits-2.true-raw c.refuse-then-not-fits-2.ensures
+returns-then-not-fits-2 c = misses_second c.args.input.now _ c.line_at-one.ensures _ c.fits.ensures c.if-not-fits.false-raw _ c.line_at-two.ensures _ c.fits-2.ensures c.if-not-fits-2.true-raw c.refuse-then-not-fits-2.ensures
 
 pub returns-then-not-fits-3 : goal.returns-then-not-fits-3
-returns-then-not-fits-3 c = misses_third c.args.input.now _ c.line_at-one.ensures _ c.fits-2.ensures c.if-not-fits.false-raw _ c.line_at-two.ensures _ c.fits-3.ensures c.if-not-fits-2.false-raw _ c.line_at-three.ensures _ c.before.before.before.before.before.fits4.ensures c.if-not-fits-3.true-raw c.refuse-then-not-fits-3.ensures
+returns-then-not-fits-3 c = misses_third c.args.input.now _ c.line_at-one.ensures _ c.fits.ensures c.if-not-fits.false-raw _ c.line_at-two.ensures _ c.fits-2.ensures c.if-not-fits-2.false-raw _ c.line_at-three.ensures _ c.fits-3.ensures c.if-not-fits-3.true-raw c.refuse-then-not-fits-3.ensures
 
 pub respond-requires : goal.respond-requires
-respond-requires c = have_paths c.args.input.now _ c.line_at-one.ensures _ c.fits-2.ensures c.if-not-fits.false-raw _ c.line_at-two.ensures _ c.fits-3.ensures c.if-not-fits-2.false-raw _ c.line_at-three.ensures _ c.before.before.before.fits4.ensures c.if-not-fits-3.false-raw
+respond-requires c = have_paths c.args.input.now _ c.line_at-one.ensures _ c.fits.ensures c.if-not-fits.false-raw _ c.line_at-two.ensures _ c.fits-2.ensures c.if-not-fits-2.false-raw _ c.line_at-three.ensures _ c.fits-3.ensures c.if-not-fits-3.false-raw
 
 pub returns : goal.returns
-returns c = misses-none c.args.input.now _ c.line_at-one.ensures _ c.fits-2.ensures c.if-not-fits.false-raw _ c.line_at-two.ensures _ c.fits-3.ensures c.if-not-fits-2.false-raw _ c.line_at-three.ensures _ c.before.before.before.before.before.before.fits4.ensures c.if-not-fits-3.false-raw c.respond.ensures
+returns c = misses-none c.args.input.now _ c.line_at-one.ensures _ c.fits.ensures c.if-not-fits.false-raw _ c.line_at-two.ensures _ c.fits-2.ensures c.if-not-fits-2.false-raw _ c.line_at-three.ensures _ c.fits-3.ensures c.if-not-fits-3.false-raw c.respond.ensures

@@ -8,15 +8,14 @@ use Rattle.question.proofs.respond.Goals as goal
 pub returns : goal.returns
 unfolding path_from
 returns c =
-    let s = c.before.before.before.before.before.before.before.before.before.before.before.before.before.before.before.before.before.before.before.before.before.before.before.before.before.before.before.before.before in
     responded
-    s.args.text.now
-    (asked_by s.args.question s.args.start s.args.target)
-    (record { store = c.fresh_store-store.result; work = c.fresh_work-work.result; room = s.args.output.now })
+    c.args.text.now
+    (asked_by c.args.question c.args.start c.args.target)
+    (record { store = c.fresh_store-store.result; work = c.fresh_work-work.result; room = c.args.output.now })
     _
     _
     _
     (search rules)
     (search rules)
-    (rw (c.number4-uid.ensures s.args.question.size, c.number4-gid.ensures s.args.question.size, c.byte-kind.ensures) at c.ask-answer.ensures)
+    (rw (c.number4-uid.ensures c.args.question.size, c.number4-gid.ensures c.args.question.size, c.byte-kind.ensures) at c.ask-answer.ensures)
     c.tell.ensures

@@ -9,71 +9,68 @@ use Rattle.ask.specs.Ask.{start_of}
 use Rattle.reply.specs.Run.{Ended}
 use Rattle.reply.proofs.Ends.{told_short, told-whole, run_of, lines_after, traced, lying_of, run_few, lines-length, lines_right, writable_of, wrote_none}
 use Rattle.reply.proofs.reached_by.Goals as goal
-use Rattle.reply.proofs.reached_by.Lts as lts
+use Rattle.reply.proofs.reached_by.Goals.{After-run_length-size, After-write_run-arg-1}
 
 -- What a search for an ask has come to.
-abbrev Over : lts.Start → Type 0
+abbrev Over : After-run_length-size → Type 0
 Over s = Ended s.args.store.now s.args.t.now s.args.area.now s.args.z s.args.w s.args.start
 
 -- The length of the lines of the run.
-run_is : (c : lts.After-run_length-size) → let s = c.before.before.before.before.before.before.before.before.before.before.before.before in (g : Over s) →
-    c.run_length-size.result ≡ length (step_lines (records_of (policy_in s.args.store.now) (start_of g.asked) (run_of g s.requires.1)))
+run_is : (c : After-run_length-size) → (g : Over c) →
+    c.run_length-size.result ≡ length (step_lines (records_of (policy_in c.args.store.now) (start_of g.asked) (run_of g c.requires.1)))
 unfolding lying_of
-run_is c g = let s = c.before.before.before.before.before.before.before.before.before.before.before.before in c.run_length-size.ensures (lying_of g s.requires.1 c.trace-n.ensures) (start_of g.asked)
+run_is c g = c.run_length-size.ensures (lying_of g c.requires.1 c.trace-n.ensures) (start_of g.asked)
 
 -- The lines fit.
-fits : (c : tie.After-write-run-arg2) → let s = c.before.before.before.before.before.before.before.before.before.before.before.before.before.before.before.before.before.before.before.before in (g : Over s) →
-    length (lines_after g s.requires.1 c.before.before.before.before.before.before.before.before.before.before.before.before.trace.result) ≤ length s.args.room.now
-fits c g =
-    let s = c.before.before.before.before.before.before.before.before.before.before.before.before.before.before.before.before.before.before.before.before in
-    omega (arith, lines-length g s.requires.1 c.before.before.before.before.before.before.before.before.before.before.before.before.trace.ensures _ (run_is c.before.before.before.before.before.before.before.before g), c.before.before.before.before.before.before.before.if1.false)
+fits : (c : After-write_run-arg-1) → (g : Ended c.args.store.now c.args.t.now c.args.area.now c.args.z c.args.w c.args.start) →
+    c.run_length-size.result ≡ length (step_lines (records_of (policy_in c.args.store.now) (start_of g.asked) (run_of g c.requires.1))) →
+    length (lines_after g c.requires.1 c.trace-n.result) ≤ length c.args.room.now
+fits c g e = omega (arith, lines-length g c.requires.1 c.trace-n.ensures _ e, c.if-room-size.false)
 
 pub overflow_sub-opened : goal.overflow_sub-opened
-overflow_sub-opened c = let s = c.before.before.before.before.before.before in omega (arith, (s.requires.0.met s.requires.1).some)
+overflow_sub-opened c = omega (arith, (c.requires.0.met c.requires.1).some)
 
 pub trace-n-requires : goal.trace-n-requires
-trace-n-requires c = let s = c.before.before.before.before.before.before.before in ((s.requires.0.met s.requires.1).rooted, omega (arith, s.requires.2))
+trace-n-requires c = ((c.requires.0.met c.requires.1).rooted, omega (arith, c.requires.2))
 
 pub run_length-size-requires : goal.run_length-size-requires
-run_length-size-requires c = let s = c.before.before.before.before.before.before.before.before.before.before.before in lying_of s.requires.0 s.requires.1 c.trace-n.ensures
+run_length-size-requires c = lying_of c.requires.0 c.requires.1 c.trace-n.ensures
 
 pub overflow_add-size : goal.overflow_add-size
-overflow_add-size c = let s = c.before.before.before.before.before.before.before.before.before.before.before.before in omega (arith, run_few s.requires.0 s.requires.1 c.trace-n.ensures _ (run_is c s.requires.0))
+overflow_add-size c = omega (arith, run_few c.requires.0 c.requires.1 c.trace-n.ensures _ (run_is (goal.at.overflow_add-size c).After-run_length-size c.requires.0))
 
 pub returns-then-room-size : goal.returns-then-room-size
 returns-then-room-size c g =
-    let s = c.before.before.before.before.before.before.before.before.before.before.before.before.before in
-    let m = s.requires.1 in
+    let m = c.requires.1 in
     let x = c.trace-n.ensures in
     let lines = lines_after g m c.trace-n.result in
-    record { lines = lines; right = lines_right g m x; told = told_short lines s.args.room.now _ (lines-length g m x _ (run_is c.before g)) c.if-room-size.true }
+    record { lines = lines; right = lines_right g m x; told = told_short lines c.args.room.now _ (lines-length g m x _ (run_is (goal.at.returns-then-room-size c).After-run_length-size g)) c.if-room-size.true }
 
 pub overflow_cast-n : goal.overflow_cast-n
-overflow_cast-n c = let s = c.before.before.before.before.before.before.before.before.before.before.before.before.before.before in omega (arith, (traced s.requires.0 s.requires.1 c.trace-n.ensures).few)
+overflow_cast-n c = omega (arith, (traced c.requires.0 c.requires.1 c.trace-n.ensures).few)
 
 pub bounds-area-0 : goal.bounds-area-0
 bounds-area-0 c =
-    let s = c.before.before.before.before.before.before.before.before.before.before.before.before.before.before.before.before.before.before in
-    let r = (s.requires.0.met s.requires.1).rooted in
+    let r = (c.requires.0.met c.requires.1).rooted in
     omega (arith, r.long, r.within)
 
 pub write_run-requires : goal.write_run-requires
 write_run-requires c =
-    let s = c.before.before.before.before.before.before.before.before.before.before.before.before.before.before.before.before.before.before.before.before in
     let x = c.trace-n.ensures in
-    (writable_of s.requires.0 s.requires.1 x s.args.room.now (fits c s.requires.0), wrote_none s.requires.0 s.requires.1 x s.args.room.now (fits c s.requires.0) _ _ c.put_summary-at.ensures)
+    let at = goal.at.write_run-requires c in
+    let fit = fits at.After-write_run-arg-1 c.requires.0 (run_is at.After-run_length-size c.requires.0) in
+    (writable_of c.requires.0 c.requires.1 x c.args.room.now fit, wrote_none c.requires.0 c.requires.1 x c.args.room.now fit _ _ c.put_summary-at.ensures)
 
 pub returns : goal.returns
 unfolding writable_of
 returns c g =
-    let s = c.before.before.before.before.before.before.before.before.before.before.before.before.before.before.before.before.before.before.before.before.before.before.before in
-    let m = s.requires.1 in
+    let m = c.requires.1 in
     let x = c.trace-n.ensures in
     let lines = lines_after g m c.trace-n.result in
-    let fit = fits c.before.before.before g in
+    let fit = fits (goal.at.returns c).After-write_run-arg-1 g (run_is (goal.at.returns c).After-run_length-size g) in
     record {
       lines = lines;
       right = lines_right g m x;
-      told = told-whole lines s.args.room.now _ (lines-length g m x _ (run_is c.before.before.before.before.before.before.before.before.before.before.before g)) (omega (arith, c.if-room-size.false)) _
-          (c.write_run.ensures (writable_of g m x s.args.room.now fit) (wrote_none g m x s.args.room.now fit _ _ c.put_summary-at.ensures));
+      told = told-whole lines c.args.room.now _ (lines-length g m x _ (run_is (goal.at.returns c).After-run_length-size g)) (omega (arith, c.if-room-size.false)) _
+          (c.write_run.ensures (writable_of g m x c.args.room.now fit) (wrote_none g m x c.args.room.now fit _ _ c.put_summary-at.ensures));
     }

@@ -6,49 +6,41 @@ use Rattle.ask.specs.Ask.{Asked, question_of}
 use Rattle.reply.proofs.Digits.{ready_sized}
 use Rattle.reply.proofs.Ends.{ready_of, clear_of, start_state, rest, ended_of}
 use Rattle.reply.proofs.respond.Goals as goal
-use Rattle.reply.proofs.respond.Lts as lts
+use Rattle.reply.proofs.respond.Goals.{Start}
 
-abbrev asked : lts.Start → Asked
+abbrev asked : Start → Asked
 asked s = record { uid = s.args.uid; gid = s.args.gid; start = s.args.start.now; target = s.args.target.now; kind = s.args.kind }
 
 pub start_number-from-requires : goal.start_number-from-requires
 start_number-from-requires c =
-    let s = c.before.before.before.before.before.before.before.before.before.before.before in
-    let a = asked s in
-    (question_of a, ready_of a s.requires.held (c.fill.ensures _ _ s.requires.held) c.sizes-z.ensures)
+    let a = asked (goal.at.start_number-from-requires c).Start in
+    (question_of a, ready_of a c.requires.held (c.fill.ensures _ _ c.requires.held) c.sizes-z.ensures)
 
 pub search-w-requires : goal.search-w-requires
 search-w-requires c =
-    let s = c.before.before.before.before.before.before.before.before.before.before.before.before.before.before in
-    let a = asked s in
-    let r = ready_of a s.requires.held (c.fill.ensures _ _ s.requires.held) c.sizes-z.ensures in
-    (clear_of s.requires.blank r.sizes, (ready_sized r, start_state a r _ c.start_number-from.ensures))
+    let a = asked (goal.at.search-w-requires c).Start in
+    let r = ready_of a c.requires.held (c.fill.ensures _ _ c.requires.held) c.sizes-z.ensures in
+    (clear_of c.requires.blank r.sizes, (ready_sized r, start_state a r _ c.start_number-from.ensures))
 
 pub told-r-requires : goal.told-r-requires
 told-r-requires c =
-    let d = c.before.before.before.before.before.before in
-    let s = d.before.before.before.before.before.before.before.before.before.before.before.before.before.before.before in
-    let a = asked s in
-    let r = ready_of a s.requires.held (d.fill.ensures _ _ s.requires.held) d.sizes-z.ensures in
-    ended_of a r _ d.start_number-from.ensures (clear_of s.requires.blank r.sizes) d.search.result d.search.ensures _ c.start.ensures
+    let a = asked (goal.at.told-r-requires c).Start in
+    let r = ready_of a c.requires.held (c.fill.ensures _ _ c.requires.held) c.sizes-z.ensures in
+    ended_of a r _ c.start_number-from.ensures (clear_of c.requires.blank r.sizes) c.search-w.result c.search-w.ensures _ c.start.ensures
 
 pub wipe-requires : goal.wipe-requires
 wipe-requires c =
-    let d = c.before.before.before.before.before.before.before.before.before.before in
-    let s = d.before.before.before.before.before.before.before.before.before.before.before.before.before.before.before in
-    let a = asked s in
-    let r = ready_of a s.requires.held (d.fill.ensures _ _ s.requires.held) d.sizes-z.ensures in
-    (ready_sized r, rest a r _ d.start_number-from.ensures (clear_of s.requires.blank r.sizes) d.search.result d.search.ensures s.requires.blank.zero)
+    let a = asked (goal.at.wipe-requires c).Start in
+    let r = ready_of a c.requires.held (c.fill.ensures _ _ c.requires.held) c.sizes-z.ensures in
+    (ready_sized r, rest a r _ c.start_number-from.ensures (clear_of c.requires.blank r.sizes) c.search-w.result c.search-w.ensures c.requires.blank.zero)
 
 pub returns : goal.returns
 unfolding ended_of
 returns c =
-    let d = c.before.before.before.before.before.before.before.before.before.before.before.before.before in
-    let s = d.before.before.before.before.before.before.before.before.before.before.before.before.before.before.before in
-    let a = asked s in
-    let r = ready_of a s.requires.held (d.fill.ensures _ _ s.requires.held) d.sizes-z.ensures in
-    let same : length d.search.new.0 ≡ length s.args.area.now = c.area-1.given in
-    let ended = ended_of a r _ d.start_number-from.ensures (clear_of s.requires.blank r.sizes) d.search.result d.search.ensures _ c.start.ensures in
+    let a = asked (goal.at.returns c).Start in
+    let r = ready_of a c.requires.held (c.fill.ensures _ _ c.requires.held) c.sizes-z.ensures in
+    let same : length c.search-w.new.area ≡ length c.args.area.now = c.search-w.auto.area in
+    let ended = ended_of a r _ c.start_number-from.ensures (clear_of c.requires.blank r.sizes) c.search-w.result c.search-w.ensures _ c.start.ensures in
     record {
       answers = c.told-r.ensures ended;
       cleared = c.wipe.ensures ∙ ap zeros same;

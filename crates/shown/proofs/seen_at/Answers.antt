@@ -8,9 +8,9 @@ use Rattle.numbered.proofs.Radix.{digits_celled}
 use Rattle.numbered.proofs.Members.{sized}
 use Rattle.shown.proofs.Tabled.{seen_is}
 use Rattle.shown.proofs.seen_at.Goals as goal
-use Rattle.shown.proofs.seen_at.Lts as lts
+use Rattle.shown.proofs.seen_at.Goals.{After-of-d}
 
-low : (c : lts.After-of-d) → Celled c.of-d.result
+low : (c : After-of-d) → Celled c.of-d.result
 low c = rw c.of-d.ensures (digits_celled (c.is_sized.ensures.0 (not-false _ c.if-not-is_sized.false-raw)) c.args.n)
 
 pub returns-then-not-is_sized : goal.returns-then-not-is_sized
@@ -20,16 +20,16 @@ pub of-d-requires : goal.of-d-requires
 of-d-requires c = c.is_sized.ensures.0 (not-false _ c.if-not-is_sized.false-raw)
 
 pub overflow_add-d : goal.overflow_add-d
-overflow_add-d c = omega (arith, low c.before.before)
+overflow_add-d c = omega (arith, low (goal.at.overflow_add-d c).After-of-d)
 
 pub overflow_add-d-2 : goal.overflow_add-d-2
-overflow_add-d-2 c = omega (arith, low c.before.before.before.before)
+overflow_add-d-2 c = omega (arith, low (goal.at.overflow_add-d-2 c).After-of-d)
 
 pub overflow_add-place : goal.overflow_add-place
-overflow_add-place c = omega (arith, low c.before.before.before.before.before)
+overflow_add-place c = omega (arith, low (goal.at.overflow_add-place c).After-of-d)
 
 pub overflow_cast-result : goal.overflow_cast-result
-overflow_cast-result c = omega (arith, low c.before.before.before.before.before.before)
+overflow_cast-result c = omega (arith, low (goal.at.overflow_cast-result c).After-of-d)
 
 pub returns : goal.returns
 returns c P q α good tabled inside ez en =

@@ -21,17 +21,17 @@ use Rattle.shown.proofs.Four.{first_of, second_of, third_of, fourth_of}
 use Rattle.shown.proofs.Acts.{label_inside}
 use Rattle.shown.proofs.Going.{user_is, group_is, marked_is}
 use Rattle.shown.proofs.step_shown.Goals as goal
-use Rattle.shown.proofs.step_shown.Lts as lts
+use Rattle.shown.proofs.step_shown.Goals.{After-entry_at-entry}
 
 -- What is known once the two states and the entry in force are read.
-record Read (c : lts.After-entry_at-entry) (P : Policy) (α : State) (a : Act) : Type 0 where
+record Read (c : After-entry_at-entry) (P : Policy) (α : State) (a : Act) : Type 0 where
   stays : Inside P (next α a)
   before : c.seen_at-before.result ≡ seen_of P α
   after : c.seen_at-after.result ≡ seen_of P (next α a)
   force : InForce P (role P α) (path_at P.paths α.subject) c.entry_at-entry.result
   objects : objects_of (entry P α) ≡ objects_of (entry_at P c.entry_at-entry.result)
 
-read : (c : lts.After-entry_at-entry) (P : Policy) (rest : List ℕ) (q : Question) (begin : List ℕ) (α : State) (a : Act)
+read : (c : After-entry_at-entry) (P : Policy) (rest : List ℕ) (q : Question) (begin : List ℕ) (α : State) (a : Act)
     → let args = c.args in
     Loaded P rest args.store.now → Going P q args.t.now args.z begin args.p α → So (may P α a)
     → args.from ≡ state_number P α → args.to ≡ state_number P (next α a) → Read c P α a
@@ -55,24 +55,24 @@ read c P rest q begin α a loaded going m from to = record {
 
 pub returns-then-label-eq-SPECIAL_LABEL : goal.returns-then-label-eq-SPECIAL_LABEL
 returns-then-label-eq-SPECIAL_LABEL c P rest q begin α a loaded going m from to label =
-    let r = read c.before.before P rest q begin α a loaded going m from to in
+    let r = read (goal.at.returns-then-label-eq-SPECIAL_LABEL c).After-entry_at-entry P rest q begin α a loaded going m from to in
     rw (c.special.ensures, r.after) (sym (marked_is loaded.good going a m _ r.force ∙ first_of 96 _ _ _ _ _ (sym label ∙ c.if-label-eq-SPECIAL_LABEL.true)))
 
 pub returns-then-label-eq-USER_LABEL : goal.returns-then-label-eq-USER_LABEL
 returns-then-label-eq-USER_LABEL c P rest q begin α a loaded going m from to label =
-    let r = read c.before.before.before.before P rest q begin α a loaded going m from to in
+    let r = read (goal.at.returns-then-label-eq-USER_LABEL c).After-entry_at-entry P rest q begin α a loaded going m from to in
     rw (c.user.ensures, c.id_for_user.ensures P rest loaded r.force.inside (rw r.after (choice_known P USER (next α a).user r.stays.user)), r.after)
     (sym (marked_is loaded.good going a m _ r.force ∙ second_of 96 _ _ _ _ _ (λ e. c.if-label-eq-SPECIAL_LABEL.false (label ∙ e)) (sym label ∙ c.if-label-eq-USER_LABEL.true)))
 
 pub returns-then-label-eq-GROUP_LABEL : goal.returns-then-label-eq-GROUP_LABEL
 returns-then-label-eq-GROUP_LABEL c P rest q begin α a loaded going m from to label =
-    let r = read c.before.before.before.before.before P rest q begin α a loaded going m from to in
+    let r = read (goal.at.returns-then-label-eq-GROUP_LABEL c).After-entry_at-entry P rest q begin α a loaded going m from to in
     rw (c.group.ensures, c.id_for_group.ensures P rest loaded r.force.inside (rw r.after (choice_known P GROUP (next α a).group r.stays.group)), r.after)
     (sym (marked_is loaded.good going a m _ r.force ∙ third_of 96 _ _ _ _ _ (λ e. c.if-label-eq-SPECIAL_LABEL.false (label ∙ e)) (λ e. c.if-label-eq-USER_LABEL.false (label ∙ e)) (sym label ∙ c.if-label-eq-GROUP_LABEL.true)))
 
 pub returns : goal.returns
 returns c P rest q begin α a loaded going m from to label =
-    let r = read c.before.before.before.before P rest q begin α a loaded going m from to in
+    let r = read (goal.at.returns c).After-entry_at-entry P rest q begin α a loaded going m from to in
     let not-special : label_of P α a ≡ 96 → ⊥ = λ e. c.if-label-eq-SPECIAL_LABEL.false (label ∙ e) in
     let not-user : label_of P α a ≡ 97 → ⊥ = λ e. c.if-label-eq-USER_LABEL.false (label ∙ e) in
     let not-group : label_of P α a ≡ 98 → ⊥ = λ e. c.if-label-eq-GROUP_LABEL.false (label ∙ e) in

@@ -12,37 +12,31 @@ use Rattle.walk.proofs.Full.{sweep_full}
 use Rattle.walk.proofs.Again.{none-set}
 use Rattle.walk.proofs.Targets.{inside-candidates, sweep-length}
 use Rattle.walk.proofs.search.Goals as goal
-use Rattle.walk.proofs.search.Lts as lts
+use Rattle.walk.proofs.search.Goals.{At-loop-p}
 
--- The function's entry and the memory, seen from the loop's head.
-abbrev entry : lts.At-loop-p → lts.Start
-entry a = a.before.before.before.before.before.before.before.before.before.before
+-- The function's and the memory, seen from the loop's head.
+abbrev memory : At-loop-p → Walk
+memory a = walk_of a.loop-p.area a.loop-p.w
 
-abbrev memory : lts.At-loop-p → Walk
-memory a = walk_of a.loop.area a.loop.w
-
-bound : (a : lts.At-loop-p) → a.loop.w.count ≤ 8192
-bound a = kept_count (entry a).args.z a.loop.invariant.0
+bound : (a : At-loop-p) → a.loop-p.w.count ≤ 8192
+bound a = kept_count a.args.z a.loop-p.invariant.0
 
 -- A memory that the rest of the sweep leaves as it is, is that of the whole search.
-whole : (a : lts.At-loop-p) → let s = entry a in
-    sweep (goal_at s.args.t.now s.args.z) (candidates s.args.store.now s.args.t.now s.args.z) (8192 - a.loop.p) a.loop.p (memory a) ≡ memory a
-    → memory a ≡ search (goal_at s.args.t.now s.args.z) (candidates s.args.store.now s.args.t.now s.args.z) s.args.start s.args.area.now
+whole : (a : At-loop-p) → sweep (goal_at a.args.t.now a.args.z) (candidates a.args.store.now a.args.t.now a.args.z) (8192 - a.loop-p.p) a.loop-p.p (memory a) ≡ memory a
+    → memory a ≡ search (goal_at a.args.t.now a.args.z) (candidates a.args.store.now a.args.t.now a.args.z) a.args.start a.args.area.now
 unfolding search
 whole a over =
-    let s = entry a in
-    sym over ∙ a.loop.invariant.1.1.0 ∙ ap (sweep (goal_at s.args.t.now s.args.z) (candidates s.args.store.now s.args.t.now s.args.z) 8192 0) a.before.before.before.visit.ensures
+    sym over ∙ a.loop-p.invariant.1.1.0 ∙ ap (sweep (goal_at a.args.t.now a.args.z) (candidates a.args.store.now a.args.t.now a.args.z) 8192 0) a.visit-w.ensures
 
 -- The area is as long as it was.
-same : (a : lts.At-loop-p) → length a.loop.area ≡ length (entry a).args.area.now
+same : (a : At-loop-p) → length a.loop-p.area ≡ length a.args.area.now
 same a =
-    let s = entry a in
-    let goal = goal_at s.args.t.now s.args.z in
-    let steps = candidates s.args.store.now s.args.t.now s.args.z in
-    let first = a.before.before.before.visit in
-    sym (sweep-length goal steps (8192 - a.loop.p) a.loop.p (memory a)) ∙ ap (λ (v : Walk). length v.area) a.loop.invariant.1.1.0
-    ∙ sweep-length goal steps 8192 0 (walk_of first.new.0 first.result) ∙ ap (λ (v : Walk). length v.area) first.ensures
-    ∙ visit-length goal 0 0 s.args.start (empty s.args.area.now)
+    let aim = goal_at a.args.t.now a.args.z in
+    let steps = candidates a.args.store.now a.args.t.now a.args.z in
+    let first = a.visit-w in
+    sym (sweep-length aim steps (8192 - a.loop-p.p) a.loop-p.p (memory a)) ∙ ap (λ (v : Walk). length v.area) a.loop-p.invariant.1.1.0
+    ∙ sweep-length aim steps 8192 0 (walk_of first.new.area first.result) ∙ ap (λ (v : Walk). length v.area) first.ensures
+    ∙ visit-length aim 0 0 a.args.start (empty a.args.area.now)
 
 pub all_states-all-requires : goal.all_states-all-requires
 all_states-all-requires c = c.requires.1.0
@@ -52,71 +46,65 @@ none_opened-opened-requires c = tt
 
 pub visit-w-requires : goal.visit-w-requires
 visit-w-requires c =
-    let s = c.before.before.before.before.before.before in
-    (record { kept = kept-empty s.args.z s.args.area.now s.requires.0; place = omega arith; sized = s.requires.1.0 }, s.requires.1.1)
+    (record { kept = kept-empty c.args.z c.args.area.now c.requires.0; place = omega arith; sized = c.requires.1.0 }, c.requires.1.1)
 
 pub loop-p-init : goal.loop-p-init
 loop-p-init c =
-    let s = c.before.before.before.before.before.before.before.before.before in
-    let z = s.args.z in
-    let kept = kept-visit z s.requires.1.0.few (goal_at s.args.t.now z) 0 0 s.args.start s.requires.1.1 (kept-empty z s.args.area.now s.requires.0) in
+    let z = c.args.z in
+    let kept = kept-visit z c.requires.1.0.few (goal_at c.args.t.now z) 0 0 c.args.start c.requires.1.1 (kept-empty z c.args.area.now c.requires.0) in
     let first = c.visit-w in
-    (rw first.ensures kept, (omega arith, (refl, none-set (walk_of first.new.0 first.result) c.none_opened-opened.ensures)))
+    (rw first.ensures kept, (omega arith, (refl, none-set (walk_of first.new.area first.result) c.none_opened-opened.ensures)))
 
 pub returns-then-met-eq1 : goal.returns-then-met-eq1
 returns-then-met-eq1 c =
-    let a = c.before.before.before in
-    let s = entry a in
-    whole a (sweep_met (goal_at s.args.t.now s.args.z) (candidates s.args.store.now s.args.t.now s.args.z) (8192 - a.loop-p.p) a.loop-p.p (memory a) (eq-eqb _ _ c.if-met-eq1.true))
+    let s = (goal.at.returns-then-met-eq1 c).At-loop-p in
+    whole (goal.at.returns-then-met-eq1 c).At-loop-p (sweep_met (goal_at s.args.t.now s.args.z) (candidates s.args.store.now s.args.t.now s.args.z) (8192 - c.loop-p.p) c.loop-p.p (memory (goal.at.returns-then-met-eq1 c).At-loop-p) (eq-eqb _ _ c.if-met-eq1.true))
 
 pub returns-then-w-all : goal.returns-then-w-all
 returns-then-w-all c =
-    let a = c.before.before.before.before.before in
-    let s = entry a in
-    let all = c.if-w-all.true ∙ a.all_states-all.ensures in
-    whole a (sweep_full s.args.z s.pre.1.0.few (goal_at s.args.t.now s.args.z) (memory a) a.loop-p.invariant.0 all
-    (candidates s.args.store.now s.args.t.now s.args.z) (inside-candidates s.args.store.now s.args.t.now s.pre.1.0) (8192 - a.loop-p.p) a.loop-p.p)
+    let s = (goal.at.returns-then-w-all c).At-loop-p in
+    let all = c.if-w-all.true ∙ c.all_states-all.ensures in
+    whole (goal.at.returns-then-w-all c).At-loop-p (sweep_full s.args.z s.requires.1.0.few (goal_at s.args.t.now s.args.z) (memory (goal.at.returns-then-w-all c).At-loop-p) c.loop-p.invariant.0 all
+    (candidates s.args.store.now s.args.t.now s.args.z) (inside-candidates s.args.store.now s.args.t.now s.requires.1.0) (8192 - c.loop-p.p) c.loop-p.p)
 
 pub overflow_mul-place : goal.overflow_mul-place
-overflow_mul-place c = omega (arith, bound c.before.before.before.before.before)
+overflow_mul-place c = omega (arith, bound (goal.at.overflow_mul-place c).At-loop-p)
 
 pub offset_bounds-area-place : goal.offset_bounds-area-place
-offset_bounds-area-place c = omega (arith, bound c.before.before.before.before.before)
+offset_bounds-area-place c = omega (arith, bound (goal.at.offset_bounds-area-place c).At-loop-p)
 
 pub bounds-area-place : goal.bounds-area-place
-bounds-area-place c = let a = c.before.before.before.before.before.before in omega (arith, kept_most (entry a).args.z (entry a).requires.1.0.few a.loop-p.invariant.0, a.loop-p.invariant.0.long)
+bounds-area-place c = omega (arith, kept_most (goal.at.bounds-area-place c).At-loop-p.args.z (goal.at.bounds-area-place c).At-loop-p.requires.1.0.few c.loop-p.invariant.0, c.loop-p.invariant.0.long)
 
 pub expand-w-requires : goal.expand-w-requires
 expand-w-requires c =
-    let a = c.before.before.before.before.before.before.before.before in
-    (record { kept = a.loop-p.invariant.0; place = omega (arith, bound a); sized = (entry a).requires.1.0 }, (a.loop-p.invariant.0.states a.loop-p.p (omega arith), a.loop-p.invariant.1.1.1))
+    (record { kept = c.loop-p.invariant.0; place = omega (arith, bound (goal.at.expand-w-requires c).At-loop-p); sized = (goal.at.expand-w-requires c).At-loop-p.requires.1.0 }, (c.loop-p.invariant.0.states c.loop-p.p (omega arith), c.loop-p.invariant.1.1.1))
 
 pub overflow_add-p : goal.overflow_add-p
-overflow_add-p c = omega (arith, bound c.before.before.before.before.before.before.before.before.before.before.before)
+overflow_add-p c = omega (arith, bound (goal.at.overflow_add-p c).At-loop-p)
 
 pub loop-p-smaller : goal.loop-p-smaller
-loop-p-smaller c = omega (arith, bound c.before.before.before.before.before.before.before.before.before.before.before)
+loop-p-smaller c = omega (arith, bound (goal.at.loop-p-smaller c).At-loop-p)
 
 pub loop-p-preserved : goal.loop-p-preserved
 loop-p-preserved c =
-    let a = c.before.before.before.before.before.before.before.before.before.before.before in
-    let s = entry a in
+    let s = (goal.at.loop-p-preserved c).At-loop-p in
     let z = s.args.z in
-    let goal = goal_at s.args.t.now z in
+    let aim = goal_at s.args.t.now z in
     let steps = candidates s.args.store.now s.args.t.now z in
-    let p : ℕ = a.loop-p.p in
-    let w : Walk = memory a in
+    let p : ℕ = c.loop-p.p in
+    let w : Walk = memory (goal.at.loop-p-preserved c).At-loop-p in
     let here : p < w.count = omega (arith, c.loop-p-test.true) in
-    let most : w.count ≤ 8192 = bound a in
+    let most : w.count ≤ 8192 = bound (goal.at.loop-p-preserved c).At-loop-p in
     let fuel : 8192 - p ≡ suc (8192 - (p + 1)) = omega arith in
     let turned = c.expand-w.ensures.0 in (
-      rw turned (kept-visits z s.pre.1.0.few goal p (steps (queued w.area p)) (inside-candidates s.args.store.now s.args.t.now s.pre.1.0 (queued w.area p) (a.loop-p.invariant.0.states p here)) a.loop-p.invariant.0),
+      rw turned (kept-visits z s.requires.1.0.few aim p (steps (queued w.area p)) (inside-candidates s.args.store.now s.args.t.now s.requires.1.0 (queued w.area p) (c.loop-p.invariant.0.states p here)) c.loop-p.invariant.0),
       (
         omega arith,
         (
-          ap (sweep goal steps (8192 - (p + 1)) (p + 1)) turned
-              ∙ sym (sweep_more goal steps (8192 - (p + 1)) p w (ne_eqb _ _ c.if-met-eq1.false) here)
-              ∙ ap (λ (f : ℕ). sweep goal steps f p w) (sym fuel) ∙ a.loop-p.invariant.1.1.0,
+          ap (sweep aim steps (8192 - (p + 1)) (p + 1)) turned
+              ∙ sym (sweep_more aim steps (8192 - (p + 1)) p w (ne_eqb _ _ c.if-met-eq1.false) here)
+              ∙ ap (λ (f : ℕ). sweep aim steps f p w) (sym fuel) ∙ c.loop-p.invariant.1.1.0,
           c.expand-w.ensures.1,
         ),
       ),
@@ -124,6 +112,5 @@ loop-p-preserved c =
 
 pub returns : goal.returns
 returns c =
-    let a = c.before.before in
-    let s = entry a in
-    whole a (sweep-done (goal_at s.args.t.now s.args.z) (candidates s.args.store.now s.args.t.now s.args.z) (8192 - a.loop-p.p) a.loop-p.p (memory a) (omega arith))
+    let s = (goal.at.returns c).At-loop-p in
+    whole (goal.at.returns c).At-loop-p (sweep-done (goal_at s.args.t.now s.args.z) (candidates s.args.store.now s.args.t.now s.args.z) (8192 - c.loop-p.p) c.loop-p.p (memory (goal.at.returns c).At-loop-p) (omega arith))

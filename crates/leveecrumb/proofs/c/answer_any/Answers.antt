@@ -4,7 +4,7 @@ use Rattle.reply.proofs.Loads.{held_few, blank_of}
 use Rattle.leveecrumb.proofs.c.answer_any.Goals as goal
 
 pub respond-requires : goal.respond-requires
-respond-requires c = let held = c.requires in (held, blank_of _ 24576 c.fresh-numbers.ensures (omega (arith, held_few held)))
+respond-requires c = record { held = c.requires; blank = blank_of _ 24576 c.fresh-numbers.ensures (omega (arith, held_few c.requires)) }
 
 pub returns : goal.returns
 returns c = c.respond.ensures.answers

@@ -8,45 +8,36 @@ use Rattle.lines.specs.Line.{zeros}
 use Rattle.ask.specs.Ask.{Asked, Areas}
 use Rattle.leveecrumb.proofs.Outcomes.{comes-refused, long_enough, holds_after, comes_answered}
 use Rattle.leveecrumb.proofs.c.leveecrumb_ask.Goals as goal
-use Rattle.leveecrumb.proofs.c.leveecrumb_ask.Lts as lts
+use Rattle.leveecrumb.proofs.c.leveecrumb_ask.Goals.{Else-number-ne0}
 
-abbrev asked : lts.Start → Asked
-asked s = record { uid = s.args.uid; gid = s.args.gid; start = s.args.start.now; target = s.args.target.now; kind = s.args.kind }
-
-abbrev lent : lts.Start → Areas
-lent s = record { store = s.args.store.now; work = s.args.work.now; room = s.args.room.now }
-
--- ---- once the text is loaded
-
-abbrev begun : lts.Else-number-ne0 → lts.Start
-begun e = e.before.before.before.before.before.before.before.before.before.before.before
-
-long : (e : lts.Else-number-ne0) → 49152 ≤ length (lent (begun e)).work
+long : (e : Else-number-ne0) → 49152 ≤ length e.args.work.now
 long e =
-    let s = begun e in
-    let h : 24576 ≤ length (lent s).work / 2 = long_enough 49152 (length (lent s).work / 2) s.args.text.now (asked s) (lent s) _ _ _ e.loaded-o.ensures e.if-number-ne0.false in
+    let asked : Asked = record { uid = e.args.uid; gid = e.args.gid; start = e.args.start.now; target = e.args.target.now; kind = e.args.kind } in
+    let lent : Areas = record { store = e.args.store.now; work = e.args.work.now; room = e.args.room.now } in
+    let h : 24576 ≤ length lent.work / 2 = long_enough 49152 (length lent.work / 2) e.args.text.now asked lent _ _ _ e.loaded-o.ensures e.if-number-ne0.false in
     omega arith
 
 pub returns-then-number-ne0 : goal.returns-then-number-ne0
 returns-then-number-ne0 c =
-    let s = c.before.before.before.before.before.before.before.before.before.before.before.before in
-    (_, c.code.ensures, comes-refused 49152 (length (lent s).work / 2) s.args.text.now (asked s) (lent s) _ _ _ c.loaded-o.ensures c.if-number-ne0.true)
+    let asked : Asked = record { uid = c.args.uid; gid = c.args.gid; start = c.args.start.now; target = c.args.target.now; kind = c.args.kind } in
+    let lent : Areas = record { store = c.args.store.now; work = c.args.work.now; room = c.args.room.now } in
+    (_, c.code.ensures, comes-refused 49152 (length lent.work / 2) c.args.text.now asked lent _ _ _ c.loaded-o.ensures c.if-number-ne0.true)
 
 pub answer-a-requires : goal.answer-a-requires
 answer-a-requires c =
-    let e = c.before.before in
-    let s = begun e in
-    holds_after 49152 (length (lent s).work / 2) s.args.text.now (asked s) (lent s) _ _ _ e.loaded-o.ensures e.if1.false
+    let asked : Asked = record { uid = c.args.uid; gid = c.args.gid; start = c.args.start.now; target = c.args.target.now; kind = c.args.kind } in
+    let lent : Areas = record { store = c.args.store.now; work = c.args.work.now; room = c.args.room.now } in
+    holds_after 49152 (length lent.work / 2) c.args.text.now asked lent _ _ _ c.loaded-o.ensures c.if-number-ne0.false
 
 pub slice_bounds-clear-end : goal.slice_bounds-clear-end
-slice_bounds-clear-end c = long c.before.before.before.before.before
+slice_bounds-clear-end c = long (goal.at.slice_bounds-clear-end c).Else-number-ne0
 
 pub slice_bounds-clear-end-2 : goal.slice_bounds-clear-end-2
-slice_bounds-clear-end-2 c = sym (length-take-le 49152 (lent (begun c.before.before.before.before.before.before)).work (long c.before.before.before.before.before.before))
+slice_bounds-clear-end-2 c = sym (length-take-le 49152 c.args.work.now (long (goal.at.slice_bounds-clear-end-2 c).Else-number-ne0))
 
 pub returns : goal.returns
 returns c =
-    let e = c.before.before.before.before.before.before.before.before.before.before in
-    let s = begun e in
-    let zero = c.clear.ensures ∙ ap zeros (length-take-le 49152 (lent s).work (long e)) in
-    (_, c.code-2.ensures, comes_answered 49152 (length (lent s).work / 2) s.args.text.now (asked s) (lent s) _ _ _ e.loaded-o.ensures e.if1.false _ _ _ zero c.answer-a.ensures)
+    let asked : Asked = record { uid = c.args.uid; gid = c.args.gid; start = c.args.start.now; target = c.args.target.now; kind = c.args.kind } in
+    let lent : Areas = record { store = c.args.store.now; work = c.args.work.now; room = c.args.room.now } in
+    let zero = c.clear.ensures ∙ ap zeros (length-take-le 49152 lent.work (long (goal.at.returns c).Else-number-ne0)) in
+    (_, c.code-2.ensures, comes_answered 49152 (length lent.work / 2) c.args.text.now asked lent _ _ _ c.loaded-o.ensures c.if-number-ne0.false _ _ _ zero c.answer-a.ensures)

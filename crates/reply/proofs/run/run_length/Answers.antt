@@ -1,3 +1,4 @@
+use mathlib.Core.List.{[]}
 use mathlib.Core.Path.{refl, ◌∙◌}
 use native.Mathlib.Omega.{arith}
 use Rattle.gran.specs.Real
@@ -16,8 +17,7 @@ step_length-size-requires c = (c.requires, omega arith)
 
 pub overflow_add-size : goal.overflow_add-size
 overflow_add-size c =
-    let s = c.before.before.before.before.before in
-    let g = s.requires in
+    let g = c.requires in
     let σ = Real.start 0 0 [] in
     let k = c.loop-k.k in
     omega (

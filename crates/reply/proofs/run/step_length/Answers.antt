@@ -4,36 +4,35 @@ use lib.ListN.{get_or}
 use native.Mathlib.Omega.{arith}
 use Rattle.reply.specs.Run.{act_of, state_after, Marked}
 use Rattle.reply.proofs.run.step_length.Goals as goal
-use Rattle.reply.proofs.run.step_length.Lts as lts
+use Rattle.reply.proofs.run.step_length.Goals.{Start}
 
 -- The place of the step.
-here : (s : lts.Start)
+here : (s : Start)
     → Marked s.requires.0.policy s.args.area.now (state_after s.requires.0.from s.requires.0.acts s.args.k) (act_of s.requires.0.acts s.args.k) (get_or s.args.out.now (s.args.n - 1 - s.args.k) 0)
 here s = s.requires.0.traced.marked s.args.k (s.args.n - 1 - s.args.k) (omega (arith, s.requires.1))
 
 pub overflow_mul-to : goal.overflow_mul-to
-overflow_mul-to c = omega (arith, (here c.before.before.before).place)
+overflow_mul-to c = omega (arith, (here (goal.at.overflow_mul-to c).Start).place)
 
 pub offset_bounds-area-place : goal.offset_bounds-area-place
-offset_bounds-area-place c = omega (arith, (here c.before.before.before).place)
+offset_bounds-area-place c = omega (arith, (here (goal.at.offset_bounds-area-place c).Start).place)
 
 pub bounds-area-place : goal.bounds-area-place
-bounds-area-place c = omega (arith, (here c.before.before.before.before).within)
+bounds-area-place c = omega (arith, (here (goal.at.bounds-area-place c).Start).within)
 
 pub overflow_mul-to-2 : goal.overflow_mul-to-2
-overflow_mul-to-2 c = omega (arith, (here c.before.before.before.before).small)
+overflow_mul-to-2 c = omega (arith, (here (goal.at.overflow_mul-to-2 c).Start).small)
 
 pub overflow_add-to : goal.overflow_add-to
-overflow_add-to c = omega (arith, (here c.before.before.before.before).small)
+overflow_add-to c = omega (arith, (here (goal.at.overflow_add-to c).Start).small)
 
 pub offset_bounds-area-to : goal.offset_bounds-area-to
-offset_bounds-area-to c = omega (arith, (here c.before.before.before.before).small)
+offset_bounds-area-to c = omega (arith, (here (goal.at.offset_bounds-area-to c).Start).small)
 
 pub bounds-area-to : goal.bounds-area-to
-bounds-area-to c = omega (arith, (here c.before.before.before.before.before).room)
+bounds-area-to c = omega (arith, (here (goal.at.bounds-area-to c).Start).room)
 
 pub returns : goal.returns
 returns c g σ =
-    let s = c.before.before.before.before.before.before in
-    let m = g.traced.marked s.args.k (s.args.n - 1 - s.args.k) (omega (arith, s.requires.1)) in
-    c.label_length.ensures g.policy σ (state_after g.from g.acts s.args.k) (act_of g.acts s.args.k) g.good m.may m.label
+    let m = g.traced.marked c.args.k (c.args.n - 1 - c.args.k) (omega (arith, c.requires.1)) in
+    c.label_length.ensures g.policy σ (state_after g.from g.acts c.args.k) (act_of g.acts c.args.k) g.good m.may m.label

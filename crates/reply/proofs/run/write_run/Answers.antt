@@ -8,8 +8,7 @@ loop-k-init c = (omega arith, λ g x. x, refl)
 
 pub write_step-w-requires : goal.write_step-w-requires
 write_step-w-requires c =
-    let s = c.before.before.before.before.before.before.before.before in
-    ((s.requires.0, c.loop-k.invariant.1 s.requires.0 s.requires.1), omega arith)
+    record { wrote = (c.requires.0, c.loop-k.invariant.1 c.requires.0 c.requires.1); k_lt_n = omega arith }
 
 pub loop-k-preserved : goal.loop-k-preserved
 loop-k-preserved c =

@@ -1,3 +1,4 @@
+use mathlib.Core.List.{[]}
 use mathlib.Core.Path.{◌≡◌, refl, sym}
 use mathlib.Core.Bool.{Bool}
 use Prim.Native.Nat.{ℕ, ◌≤◌}
@@ -7,18 +8,17 @@ use Rattle.numbered.specs.Candidates.{in_image}
 use Rattle.walk.specs.Image.{image_of}
 use Rattle.walk.proofs.Images.{collected_few, collect_turn, collect_ends, collected-length}
 use Rattle.walk.proofs.execs.collect.Goals as goal
-use Rattle.walk.proofs.execs.collect.Lts as lts
+use Rattle.walk.proofs.execs.collect.Goals.{At-loop-k}
 
-test : (c : lts.At-loop-k) → ℕ → Bool
-test c = let a = c.before.before.before.args in in_image a.t.now a.x.from a.x.place a.x.path
+test : (c : At-loop-k) → ℕ → Bool
+test c = let a = c.args in in_image a.t.now a.x.from a.x.place a.x.path
 
 -- No more were written than looked at, and the length stays.
-few : (c : lts.At-loop-k) → (c.loop.n ≤ c.loop.k) × (length c.loop.out ≡ length c.before.before.before.args.out.now)
+few : (c : At-loop-k) → (c.loop-k.n ≤ c.loop-k.k) × (length c.loop-k.out ≡ length c.args.out.now)
 unfolding test
 few c =
-    let s = c.before.before.before in
-    let l = c.loop in
-    (omega (arith, collected_few [] (test c) l.invariant.0), collected-length [] (test c) l.invariant.0 (omega (arith, l.invariant.1, s.requires.1)))
+    let l = c.loop-k in
+    (omega (arith, collected_few [] (test c) l.invariant.0), collected-length [] (test c) l.invariant.0 (omega (arith, l.invariant.1, c.requires.1)))
 
 pub loop-k-init : goal.loop-k-init
 loop-k-init c = (record { size = refl; written = refl }, omega arith)
@@ -30,7 +30,7 @@ pub overflow_cast-k : goal.overflow_cast-k
 overflow_cast-k c = omega arith
 
 pub keep-n-requires : goal.keep-n-requires
-keep-n-requires c = let f = few c.before.before.before in (omega (arith, f), omega (arith, f))
+keep-n-requires c = let f = few (goal.at.keep-n-requires c).At-loop-k in (omega (arith, f), omega (arith, f))
 
 pub overflow_add-k : goal.overflow_add-k
 overflow_add-k c = omega arith
@@ -41,13 +41,11 @@ loop-k-smaller c = omega arith
 pub loop-k-preserved : goal.loop-k-preserved
 unfolding test
 loop-k-preserved c =
-    let at = c.before.before.before.before.before.before in
-    let s = at.before.before.before in
     let hit = c.in_image-hit in
-    (rw (c.keep-n.ensures.0, c.keep-n.ensures.1) (collect_turn [] (test at) at.loop-k.invariant.0 (omega (arith, s.requires.1)) hit.result (sym hit.ensures)), omega arith)
+    (rw (c.keep-n.ensures.0, c.keep-n.ensures.1) (collect_turn [] (test (goal.at.loop-k-preserved c).At-loop-k) c.loop-k.invariant.0 (omega (arith, c.requires.1)) hit.result (sym hit.ensures)), omega arith)
 
 pub returns : goal.returns
 unfolding test image_of
 returns c =
     let l = c.loop-k in
-    collect_ends [] (test c.before) l.invariant.0 c.args.subjects (omega (arith, l.invariant.1))
+    collect_ends [] (test (goal.at.returns c).At-loop-k) l.invariant.0 c.args.subjects (omega (arith, l.invariant.1))

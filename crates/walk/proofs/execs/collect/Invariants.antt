@@ -1,4 +1,5 @@
 -- `execs::collect` meets its contract: those of the subjects looked at that are in the image stand in front. The measure is what is left of the subjects.
+use mathlib.Core.List.{[]}
 use Prim.Native.Nat.{◌-◌, ◌≤◌}
 use Rattle.numbered.specs.Candidates.{in_image}
 use Rattle.walk.proofs.Images.{Collected}

@@ -11,7 +11,7 @@ use Rattle.walk.specs.Needed.{walk_of, ObjectDone}
 use Rattle.walk.proofs.Walks.{visits-none, visits_as, written_front, written-fits, written_size}
 use Rattle.walk.proofs.Tests.{read, object-none, object-some}
 use Rattle.walk.proofs.execs.exec_object.Goals as goal
-use Rattle.walk.proofs.execs.exec_object.Lts as lts
+use Rattle.walk.proofs.execs.exec_object.Goals.{After-object_path}
 
 pub returns-then-not-executable : goal.returns-then-not-executable
 returns-then-not-executable c =
@@ -27,17 +27,16 @@ pub slice_bounds-exec_users-end : goal.slice_bounds-exec_users-end
 slice_bounds-exec_users-end c = written_size c.collect-n.ensures
 
 -- The object can be executed.
-seen : (c : lts.After-object_path) → sees (object_modes_at c.args.store.now c.args.entry c.args.i) EXEC ≡ true
+seen : (c : After-object_path) → sees (object_modes_at c.args.store.now c.args.entry c.args.i) EXEC ≡ true
 seen c = read (λ (m : ℕ). sees m EXEC) c.object_modes.ensures c.executable.ensures (not-false c.executable.result c.if-not-executable.false-raw)
 
 pub exec_users-requires : goal.exec_users-requires
 exec_users-requires c =
-    let s = c.before.before.before.before.before.before.before.before.before.before.before.before.before.before in
-    let a = s.args in
-    let h = s.requires.1.1 in (
-      s.requires.0,
+    let a = c.args in
+    let h = c.requires.1.1 in (
+      c.requires.0,
       (
-        s.requires.1.0,
+        c.requires.1.0,
         (
           written_front c.collect-n.ensures,
           (
@@ -46,7 +45,7 @@ exec_users-requires c =
               h.1.0,
               λ again.
                   subst (λ (path : ℕ). ObjectDone a.t.now a.z a.entry a.i path a.d.special (walk_of a.area.now a.w)) (sym c.object_path.ensures)
-                  ((h.1.1.1 again).object a.i h.1.1.0 (seen c.before.before.before.before.before)),
+                  ((h.1.1.1 again).object a.i h.1.1.0 (seen (goal.at.exec_users-requires c).After-object_path)),
             ),
           ),
         ),
@@ -57,4 +56,4 @@ pub returns : goal.returns
 returns c =
     let a = c.args in
     visits_as (goal_at a.t.now a.z) a.p (walk_of a.area.now a.w) c.exec_users.ensures
-    (ap (by_user a.t.now a.z a.d a.entry a.i) c.object_path.ensures ∙ object-some a.store.now a.t.now a.z a.d a.entry a.i (seen c.before.before.before.before.before.before.before.before))
+    (ap (by_user a.t.now a.z a.d a.entry a.i) c.object_path.ensures ∙ object-some a.store.now a.t.now a.z a.d a.entry a.i (seen (goal.at.returns c).After-object_path))

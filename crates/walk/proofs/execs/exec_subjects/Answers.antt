@@ -1,3 +1,4 @@
+use mathlib.Core.List.{[]}
 use mathlib.Core.Path.{◌≡◌, ap, ◌∙◌}
 use mathlib.Core.List.{List}
 use Prim.Native.Nat.{ℕ, ◌+◌, ◌<◌}
@@ -15,30 +16,28 @@ use Rattle.walk.proofs.Loops.{begins, turns, ends}
 use Rattle.walk.proofs.Targets.{among_subject}
 use Rattle.walk.proofs.Images.{at, listed_lt, image-steps}
 use Rattle.walk.proofs.execs.exec_subjects.Goals as goal
-use Rattle.walk.proofs.execs.exec_subjects.Lts as lts
+use Rattle.walk.proofs.execs.exec_subjects.Goals.{At-loop-k, In-loop-k}
 
 -- The number of a row's subject k is the row's first number and k.
 row : (z : Sizes) (d : Digits) (base : ℕ) → base ≡ number_of z (with_subject d 0) → (k : ℕ) → base + k ≡ number_of z (with_subject d k)
 unfolding number_of
 row z d base e k = omega (arith, e)
 
-first : (c : lts.At-loop-k) → (k : ℕ) → c.before.before.number.result + k ≡ number_of c.before.before.before.before.before.before.args.z (with_subject c.before.before.before.before.before.before.args.d k)
-first c = row c.before.before.before.before.before.before.args.z c.before.before.before.before.before.before.args.d c.before.before.number.result c.before.before.number.ensures
+first : (c : At-loop-k) → (k : ℕ) → c.number-base.result + k ≡ number_of c.args.z (with_subject c.args.d k)
+first c = row c.args.z c.args.d c.number-base.result c.number-base.ensures
 
 -- A step to a subject of the image leads to a state.
-target : (c : lts.In-loop-k) → c.before.before.before.number.result + get_or c.before.before.before.before.before.before.before.args.image.now c.before.loop.k 0 < all_states c.before.before.before.before.before.before.before.args.z
+target : (c : In-loop-k) → c.number-base.result + get_or c.args.image.now c.loop-k.k 0 < all_states c.args.z
 unfolding image_of
 target c =
-    let s = c.before.before.before.before.before.before.before in
-    let x = s.args.x in
-    let at : ℕ = get_or s.args.image.now c.before.loop.k 0 in
-    let lt : at < s.args.z.subjects = listed_lt [] (in_image s.args.t.now x.from x.place x.path) s.args.z.subjects s.requires.1.1 tt c.before.loop.k c.loop-test.true in
-    rw (first c.before at) (number_of_lt (among_subject s.requires.1.0 lt))
+    let x = c.args.x in
+    let at : ℕ = get_or c.args.image.now c.loop-k.k 0 in
+    let lt : at < c.args.z.subjects = listed_lt [] (in_image c.args.t.now x.from x.place x.path) c.args.z.subjects c.requires.1.1 tt c.loop-k.k c.loop-k-test.true in
+    rw (row c.args.z c.args.d c.number-base.result c.number-base.ensures at) (number_of_lt (among_subject c.requires.1.0 lt))
 
 pub number-base-requires : goal.number-base-requires
 number-base-requires c =
-    let s = c.before.before.before in
-    (s.requires.0.sized, among_subject s.requires.1.0 s.requires.0.sized.subjects.0)
+    (c.requires.0.sized, among_subject c.requires.1.0 c.requires.0.sized.subjects.0)
 
 pub overflow_cast-c : goal.overflow_cast-c
 overflow_cast-c c = omega arith
@@ -50,10 +49,10 @@ pub bounds-image-k : goal.bounds-image-k
 bounds-image-k c = omega arith
 
 pub overflow_add-n : goal.overflow_add-n
-overflow_add-n c = omega (arith, target c.before, c.requires.0.sized.few)
+overflow_add-n c = omega (arith, target (goal.at.overflow_add-n c).In-loop-k, c.requires.0.sized.few)
 
 pub visit-done-requires : goal.visit-done-requires
-visit-done-requires c = (c.loop-k.invariant.going, target c.before.before)
+visit-done-requires c = (c.loop-k.invariant.going, target (goal.at.visit-done-requires c).In-loop-k)
 
 pub overflow_add-k : goal.overflow_add-k
 overflow_add-k c = omega arith
@@ -63,12 +62,11 @@ loop-k-smaller c = omega arith
 
 pub loop-k-preserved : goal.loop-k-preserved
 unfolding visits
-loop-k-preserved c = turns c.loop-k.invariant (omega arith) (target c.before.before.before.before.before, tt) c.visit-done.ensures
+loop-k-preserved c = turns c.loop-k.invariant (omega arith) (target (goal.at.loop-k-preserved c).In-loop-k, tt) c.visit-done.ensures
 
 pub returns : goal.returns
 returns c =
-    let s = c.before.before.before.before.before.before.before in
-    let x = s.args.x in
+    let x = c.args.x in
     ends c.loop-k.invariant (omega arith)
-    ∙ ap (λ (xs : List Step). visits (goal_at s.args.t.now s.args.z) s.args.p xs (walk_of s.args.area.now s.args.w))
-    (image-steps s.args.t.now s.args.z s.args.d x.from x.place x.path c.number-base.result (first c.before) s.args.image.now s.requires.1.1)
+    ∙ ap (λ (xs : List Step). visits (goal_at c.args.t.now c.args.z) c.args.p xs (walk_of c.args.area.now c.args.w))
+    (image-steps c.args.t.now c.args.z c.args.d x.from x.place x.path c.number-base.result (first (goal.at.returns c).At-loop-k) c.args.image.now c.requires.1.1)

@@ -1,4 +1,5 @@
 -- `execs::followers` meets its contract: the kept choice, and those of the choices looked at that can follow, stand in front. The measure is what is left of the choices.
+use mathlib.Core.List.{[]}
 use mathlib.Core.List.{◌∷◌}
 use Prim.Native.Nat.{◌-◌, ◌≤◌}
 use Rattle.walk.specs.Image.{is_another}

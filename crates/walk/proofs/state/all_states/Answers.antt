@@ -5,9 +5,9 @@ use native.Mathlib.Omega.{arith}
 use Rattle.numbered.specs.Number.{all_states}
 use Rattle.numbered.proofs.Radix.{grows}
 use Rattle.walk.proofs.state.all_states.Goals as goal
-use Rattle.walk.proofs.state.all_states.Lts as lts
+use Rattle.walk.proofs.state.all_states.Goals.{Start}
 
-module _ (s : lts.Start) where
+module _ (s : Start) where
   abbrev two : ℕ
   two = s.args.z.specials * s.args.z.users
 
@@ -16,22 +16,22 @@ module _ (s : lts.Start) where
 
   four-small : three * s.args.z.subjects ≤ 8192
   unfolding all_states
-  four-small = s.pre.few
+  four-small = s.requires.few
 
   three-small : three ≤ 8192
-  three-small = omega (arith, four-small, grows three s.args.z.subjects s.pre.subjects.0)
+  three-small = omega (arith, four-small, grows three s.args.z.subjects s.requires.subjects.0)
 
   two-small : two ≤ 8192
-  two-small = omega (arith, three-small, grows two s.args.z.groups s.pre.groups.0)
+  two-small = omega (arith, three-small, grows two s.args.z.groups s.requires.groups.0)
 
 pub overflow_mul-result : goal.overflow_mul-result
-overflow_mul-result c = omega (arith, two-small c.before)
+overflow_mul-result c = omega (arith, two-small (goal.at.overflow_mul-result c).Start)
 
 pub overflow_mul-result-2 : goal.overflow_mul-result-2
-overflow_mul-result-2 c = omega (arith, three-small c.before.before)
+overflow_mul-result-2 c = omega (arith, three-small (goal.at.overflow_mul-result-2 c).Start)
 
 pub overflow_mul-result-3 : goal.overflow_mul-result-3
-overflow_mul-result-3 c = omega (arith, four-small c.before.before.before)
+overflow_mul-result-3 c = omega (arith, four-small (goal.at.overflow_mul-result-3 c).Start)
 
 pub returns : goal.returns
 unfolding all_states
