@@ -20,7 +20,13 @@ fn fresh_room() -> [u8; 128] {
 }
 
 // Asks for the account's access to /etc/ntp/ and writes what is printed.
-fn show<W: Write>(text: &[u8], room: &mut [u8], uid: u32, kind: u8, printed: &mut W) -> io::Result<()> {
+fn show<W: Write>(
+    text: &[u8],
+    room: &mut [u8],
+    uid: u32,
+    kind: u8,
+    printed: &mut W,
+) -> io::Result<()> {
     let mut store = fresh_store();
     let mut work = fresh_work();
     let answer = leveecrumb::ask(
@@ -42,7 +48,13 @@ fn show<W: Write>(text: &[u8], room: &mut [u8], uid: u32, kind: u8, printed: &mu
 }
 
 // The same with a room of this length.
-fn show_in<W: Write>(length: usize, text: &[u8], uid: u32, kind: u8, printed: &mut W) -> io::Result<()>
+fn show_in<W: Write>(
+    length: usize,
+    text: &[u8],
+    uid: u32,
+    kind: u8,
+    printed: &mut W,
+) -> io::Result<()>
     requires { length ≤ 128 }
 {
     let mut room = fresh_room();

@@ -1,6 +1,6 @@
 -- pathcheck: three question lines, the policy behind them, and what is printed (document 01, "One whole listing").
 -- Assumes nothing.
-use Rattle.std.specs.Prelude.{◌≡◌, Bool, not, cond, ◌&&◌, List, ◌∷◌, ℕ, zero, suc, ◌+◌, eqb, leb, length, take, drop}
+use Rattle.std.specs.Prelude.{◌≡◌, Bool, not, cond, ◌&&◌, List, ◌∷◌, ℕ, zero, suc, ◌+◌, eqb, leb, length, drop}
 use Rattle.lines.specs.declared.Frame.{Frame}
 use Rattle.lines.specs.Line.{line_length, first_line, decoded, line_of}
 use Rattle.store.specs.Layout.{two}

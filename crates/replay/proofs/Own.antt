@@ -22,7 +22,6 @@ use Rattle.gran.specs.Abstract.{abstract, real_act, image, executed}
 use Rattle.gran.specs.Lists.{member}
 use Rattle.gran.specs.Reach.{Question, Granted}
 use Rattle.gran.specs.declared.Process.{Process}
-use Rattle.gran.specs.declared.State.{State}
 use Rattle.gran.proofs.Policies.{Known, image_complete}
 use Rattle.gran.proofs.Step.{entry-same, entry_good, access-same, step_complete, next_known}
 use Rattle.gran.proofs.Processes.{started_is}

@@ -30,7 +30,7 @@ use Rattle.walk.proofs.Keeping.{kept_count, zeros-cleared}
 use Rattle.walk.proofs.Targets.{search_kept}
 use Rattle.walk.proofs.Rests.{search_rest}
 use Rattle.walk.proofs.Found.{search-never, search_met}
-use Rattle.ask.specs.Ask.{Asked, Lines, never, reached, start_of, question_of, room_with, answer_with}
+use Rattle.ask.specs.Ask.{Asked, Lines, reached, start_of, question_of, room_with, answer_with}
 use Rattle.ask.specs.declared.Answer.TheVariants.{Answered, Short}
 use Rattle.reply.specs.Reply.{Held, Ready, Told, Blank}
 use Rattle.reply.specs.Run.{real_after, state_after, Traced, Lying, Writable, Wrote, Ended}

@@ -11,7 +11,6 @@ use Rattle.lines.specs.Line.{line_of, in_front}
 use Rattle.gran.specs.Real
 use Rattle.gran.specs.Real.{state_of}
 use Rattle.gran.specs.Abstract.{abstract, may, next, real_act}
-use Rattle.gran.specs.declared.State.{State}
 use Rattle.gran.specs.declared.Process.{Process}
 use Rattle.fields.specs.Fields.{policy_in}
 use Rattle.numbered.specs.Number.{state_number}

@@ -23,12 +23,11 @@ returns-then-store-i-eq1 c P rest sound h =
     (l.invariant.1 P rest sound h ∙ place-next is_slash P.paths [] l.i within true (sym (slash_read P rest c.args.t c.args.store.now c.requires.bounded h sound l.i within ∙ eq-eqb _ _ c.if-store-i-eq1.true)))
 
 pub loop-i-preserved : goal.loop-i-preserved
-loop-i-preserved c =
-    (
-      omega arith,
-      λ P rest sound h. let l = c.loop-i in let within : l.i < length P.paths = omega (arith, h.paths) in l.invariant.1 P rest sound h
-          ∙ place-next is_slash P.paths [] l.i within false (sym (slash_read P rest c.args.t c.args.store.now c.requires.bounded h sound l.i within ∙ ne_eqb _ _ c.if-store-i-eq1.false)),
-    )
+loop-i-preserved c = (
+  omega arith,
+  λ P rest sound h. let l = c.loop-i in let within : l.i < length P.paths = omega (arith, h.paths) in l.invariant.1 P rest sound h
+      ∙ place-next is_slash P.paths [] l.i within false (sym (slash_read P rest c.args.t c.args.store.now c.requires.bounded h sound l.i within ∙ ne_eqb _ _ c.if-store-i-eq1.false)),
+)
 
 pub returns : goal.returns
 returns c = λ P rest sound h. sym (c.loop-i.invariant.1 P rest sound h ∙ place_end is_slash P.paths c.loop-i.i (omega (arith, h.paths)))

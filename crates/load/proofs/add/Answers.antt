@@ -14,9 +14,12 @@ pub add_move-requires : goal.add_move-requires
 add_move-requires c = record { bounded = move_room c.args.t (frame_in c.args.size c.args.bytes.now) c.requires.ready (sym c.byte.ensures ∙ c.in-48.is); in_bounds = c.requires.in_bounds }
 
 pub add_entry-requires : goal.add_entry-requires
-add_entry-requires c = record { bounded = entry_room c.args.t (frame_in c.args.size c.args.bytes.now) c.requires.ready
-          (sym c.byte.ensures ∙ c.in-64.is) c.byte-users.ensures
-          c.byte-groups.ensures; in_bounds = c.requires.in_bounds }
+add_entry-requires c = record {
+  bounded = entry_room c.args.t (frame_in c.args.size c.args.bytes.now) c.requires.ready
+      (sym c.byte.ensures ∙ c.in-64.is) c.byte-users.ensures
+      c.byte-groups.ensures;
+  in_bounds = c.requires.in_bounds;
+}
 
 pub add_object-requires : goal.add_object-requires
 add_object-requires c =

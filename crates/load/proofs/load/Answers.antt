@@ -14,7 +14,7 @@ pub returns-then-store-lt16384 : goal.returns-then-store-lt16384
 returns-then-store-lt16384 c = too_small c.args.text.now c.args.store.now c.if-text-gt32768.false c.if-store-lt16384.true
 
 pub read_lines-read-requires : goal.read_lines-read-requires
-read_lines-read-requires c = record { cleared = cleared_is _ c.args.store.now c.if-store-lt16384.false c.clear.ensures; text_len_bound = ( c.if-text-gt32768.false, room_kept (cleared-length _ c.args.store.now c.if-store-lt16384.false c.clear.ensures) c.if-store-lt16384.false, ) }
+read_lines-read-requires c = record { cleared = cleared_is _ c.args.store.now c.if-store-lt16384.false c.clear.ensures; text_len_bound = (c.if-text-gt32768.false, room_kept (cleared-length _ c.args.store.now c.if-store-lt16384.false c.clear.ensures) c.if-store-lt16384.false) }
 
 pub returns-then-refusal-ne0 : goal.returns-then-refusal-ne0
 returns-then-refusal-ne0 c =

@@ -22,22 +22,22 @@ loop-r-preserved c =
     let count = c.role_count-count.ensures in
     let kind = c.role_kind.ensures in
     elim c.if-role_kind-kind.branch [
-    then-role_kind-kind w ↦ (
-      omega arith,
-      omega arith,
-      omega (arith, put.auto.part),
-      λ P rest L room.
-          let more : length (choices P c.args.kind) ≤ length loop.part = omega (arith, put.auto.part) in
-          rw (w.at-is, put.ensures) (choice-taken L _ loop.r (omega arith) (loop.invariant.3 P rest L more) more (sym kind ∙ w.if-role_kind-kind.true)),
-    )
-    | else-role_kind-kind w ↦ (
-      omega arith,
-      omega arith,
-      omega (arith, put.auto.part),
-      λ P rest L room.
-          let more : length (choices P c.args.kind) ≤ length loop.part = omega (arith, put.auto.part) in
-          rw (w.at-is, put.ensures) (choice_passed L _ loop.r (omega arith) (loop.invariant.3 P rest L more) (λ e. w.if-role_kind-kind.false (kind ∙ e))),
-    )
+      | then-role_kind-kind w ↦ (
+        omega arith,
+        omega arith,
+        omega (arith, put.auto.part),
+        λ P rest L room.
+            let more : length (choices P c.args.kind) ≤ length loop.part = omega (arith, put.auto.part) in
+            rw (w.at-is, put.ensures) (choice-taken L _ loop.r (omega arith) (loop.invariant.3 P rest L more) more (sym kind ∙ w.if-role_kind-kind.true)),
+      )
+      | else-role_kind-kind w ↦ (
+        omega arith,
+        omega arith,
+        omega (arith, put.auto.part),
+        λ P rest L room.
+            let more : length (choices P c.args.kind) ≤ length loop.part = omega (arith, put.auto.part) in
+            rw (w.at-is, put.ensures) (choice_passed L _ loop.r (omega arith) (loop.invariant.3 P rest L more) (λ e. w.if-role_kind-kind.false (kind ∙ e))),
+      )
     ]
 
 pub returns : goal.returns

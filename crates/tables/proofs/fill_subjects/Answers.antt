@@ -18,22 +18,22 @@ loop-c-preserved c =
     let count = c.path_count-count.ensures in
     let found = c.subject_marks-marks.ensures in
     elim c.if-marks-c-eq1.branch [
-    then-marks-c-eq1 w ↦ (
-      omega arith,
-      omega arith,
-      omega (arith, put.auto.part),
-      λ P rest L room.
-          let more : length (paths_of_s P) ≤ length loop.part = omega (arith, put.auto.part) in
-          rw (w.at-is, put.ensures) (subject-taken L loop.c (omega arith) (loop.invariant.3 P rest L more) more (found P rest L loop.c ∙ eq-eqb _ _ w.if-marks-c-eq1.true)),
-    )
-    | else-marks-c-eq1 w ↦ (
-      omega arith,
-      omega arith,
-      omega (arith, put.auto.part),
-      λ P rest L room.
-          let more : length (paths_of_s P) ≤ length loop.part = omega (arith, put.auto.part) in
-          rw (w.at-is, put.ensures) (subject_passed L loop.c (omega arith) (loop.invariant.3 P rest L more) (found P rest L loop.c ∙ ne_eqb _ _ w.if-marks-c-eq1.false)),
-    )
+      | then-marks-c-eq1 w ↦ (
+        omega arith,
+        omega arith,
+        omega (arith, put.auto.part),
+        λ P rest L room.
+            let more : length (paths_of_s P) ≤ length loop.part = omega (arith, put.auto.part) in
+            rw (w.at-is, put.ensures) (subject-taken L loop.c (omega arith) (loop.invariant.3 P rest L more) more (found P rest L loop.c ∙ eq-eqb _ _ w.if-marks-c-eq1.true)),
+      )
+      | else-marks-c-eq1 w ↦ (
+        omega arith,
+        omega arith,
+        omega (arith, put.auto.part),
+        λ P rest L room.
+            let more : length (paths_of_s P) ≤ length loop.part = omega (arith, put.auto.part) in
+            rw (w.at-is, put.ensures) (subject_passed L loop.c (omega arith) (loop.invariant.3 P rest L more) (found P rest L loop.c ∙ ne_eqb _ _ w.if-marks-c-eq1.false)),
+      )
     ]
 
 pub returns : goal.returns

@@ -14,7 +14,7 @@ use Rattle.walk.specs.Image.{image_of}
 use Rattle.numbered.proofs.Radix.{number_of_lt}
 use Rattle.walk.proofs.Loops.{begins, turns, ends}
 use Rattle.walk.proofs.Targets.{among_subject}
-use Rattle.walk.proofs.Images.{at, listed_lt, image-steps}
+use Rattle.walk.proofs.Images.{listed_lt, image-steps}
 use Rattle.walk.proofs.execs.exec_subjects.Goals as goal
 use Rattle.walk.proofs.execs.exec_subjects.Goals.{At-loop-k, In-loop-k}
 
