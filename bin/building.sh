@@ -47,7 +47,7 @@ version() {
 # The kit's identity.
 find_kit() {
     command -v rt >/dev/null || fail "the Rattle kit's command rt, which proves and runs the program, is not on the PATH"
-    kit=$(rt version 2>&1) || fail "the Rattle kit's command rt does not work: $kit"
+    kit=$(rt version </dev/null 2>&1) || fail "the Rattle kit's command rt does not work: $kit"
 }
 
 # ---- building
@@ -56,7 +56,7 @@ find_kit() {
 is_built() { # NAME FILE
     mark=$root/target/built/$1
     [ -f "$root/target/$2" ] && [ -r "$mark" ] && [ "$(cat "$mark")" = "$kit" ] &&
-        [ -z "$(find "$root/crates" "$root/crates.txt" -newer "$mark" -print -quit 2>/dev/null)" ]
+        [ -z "$(find "$root"/crates/*/src "$root"/crates/*/specs "$root"/crates/*/proofs "$root/crates.txt" -newer "$mark" -print -quit 2>/dev/null)" ]
 }
 
 # The crates that CRATE rests on, and itself.
@@ -70,28 +70,31 @@ crates_of() { # CRATE
             print name
         }
         { sub(/#.*/, "") }
-        split($0, part, ":") == 2 { gsub(/[ \t]/, "", part[1]); rests[part[1]] = part[2] }
+        split($0, part, ":") == 2 { split(part[1], word, " "); rests[word[1]] = part[2] }
         END { visit(want) }' "$root/crates.txt"
 }
 
-# How far rt is, by what it has said so far: crates done, of how many, the last of them, and about how long it will take.
-# docs/CHECKS.md has the seconds of each crate on two cores; what is left goes by how fast this machine did the others.
+# How far rt is, by what it has said so far: crates done, of how many, the last of them, and about how long it will take. rt goes
+# through CRATES in their order, and says nothing of those that it finds built. docs/CHECKS.md has the seconds of each crate on two
+# cores; what is left goes by how fast this machine did the others.
 how_far() { # CRATES LOG SECONDS
     checks=$root/docs/CHECKS.md
     [ -r "$checks" ] || checks=/dev/null
     awk -v crates="$1" -v log_file="$2" -v spent="$3" '
         BEGIN { total = split(crates, names, " ") }
         FILENAME != log_file && /^\| [a-z_]+ \| [0-9]+ \|/ { seconds[$2] = $4 }
-        FILENAME == log_file && /^rt: [a-z_]+ proved/ { last = $2; done[last] }
+        FILENAME == log_file && /^crate [a-z_]+: / { checked = substr($2, 1, length($2) - 1) }
+        FILENAME == log_file && /^logic=proved / { last = checked; done[last] }
         END {
             for (i = 1; i <= total; i++) {
                 cost = names[i] in seconds ? seconds[names[i]] : 10
                 all += cost
-                if (names[i] in done) { count++; part += cost }
+                if (names[i] in done) part += cost
+                if (names[i] == last) { count = i; behind = all }
             }
-            left = part * 10 > all ? spent * (all - part) / part : (all - part) * 0.7
+            left = part * 10 > all ? spent * (all - behind) / part : (all - behind) * 0.7
             about = left < 100 ? int(left / 10 + 1) * 10 " s" : int(left / 60 + 0.5) " min"
-            printf "%d of %d crates%s; about %s left\n", count, total, last == "" ? "" : ", " last " done", about
+            printf "%d of %d crates%s; about %s left\n", count, total, count == 0 ? "" : ", " last " done", about
         }' "$checks" "$2"
 }
 
@@ -111,15 +114,15 @@ tell() { # WORDS
     told=$1
 }
 
-# Runs rt in a group of its own, so that all of it can be stopped, and tells how far it is: DOING is a command that prints it,
-# and is given the seconds so far.
-follow() { # DOING LOG rt's WORDS...
-    doing=$1 log=$2 began=$(date +%s) told=''
+# Runs rt in CRATE's folder and in a group of its own, so that all of it can be stopped, and tells how far it is.
+follow() { # CRATE LOG rt's WORDS...
+    crates=$(crates_of "$1" | tr '\n' ' ')
+    crate_folder=$root/crates/$1 log=$2 began=$(date +%s) told=''
     shift 2
-    (cd "$root" && exec setsid rt "$@") </dev/null >>"$log" 2>&1 &
+    (cd "$crate_folder" && exec setsid rt "$@") </dev/null >>"$log" 2>&1 &
     group=$!
     while kill -0 "$group" 2>/dev/null; do
-        tell "$("$doing" $(($(date +%s) - began)))"
+        tell "proving $(how_far "$crates" "$log" $(($(date +%s) - began)))"
         sleep 1
     done
     wait "$group"
@@ -128,14 +131,17 @@ follow() { # DOING LOG rt's WORDS...
     clear_line
     return "$ended"
 }
-proving() { echo "proving $(how_far "$crates" "$log" "$1")"; }
-archiving() { echo "writing the archive; about a minute in all, $1 s so far"; }
 
-# Proves CRATE and writes target/FILE, all that rt says to LOG.
+# Proves CRATE and writes target/FILE, all that rt says to LOG. rt leaves what it builds in the crate's out/; a program it also runs,
+# here on an empty input.
 prove() { # FILE CRATE LOG
-    crates=$(crates_of "$2" | tr '\n' ' ')
-    follow proving "$3" check "$2" || return
-    case $1 in *.a) follow archiving "$3" staticlib "$2" ;; esac
+    case $1 in
+    *.a) verb=lib made=lib$2.a ;;
+    *) verb=run made=$2 ;;
+    esac
+    follow "$2" "$3" "$verb" || return
+    # It comes into its place whole.
+    { mkdir -p "$root/target/${1%/*}" && cp "$root/crates/$2/out/$made" "$root/target/$1.new" && mv -f "$root/target/$1.new" "$root/target/$1"; } 2>>"$3"
 }
 
 # Builds target/FILE from CRATE unless it is there already. One command builds at a time: a second one waits for it.
@@ -156,7 +162,7 @@ build() { # NAME FILE CRATE
     (printf '%s\n' "$kit" >"$folder/$1.new" && : >"$folder/$1.log") 2>/dev/null || fail "$folder cannot be written"
     say "target/$2 has to be proved and built first; this is done once"
     prove "$2" "$3" "$folder/$1.log" || {
-        grep -v -e ': proved$' -e '^rt: [a-z_]* proved' "$folder/$1.log" | tail -n 20 >&2
+        grep -v -e ': proved$' -e '^rt: chose ' -e '^only=' -e '^statements ' -e '^library ' -e '^crate ' -e '^axioms ' -e '^logic[ =]' "$folder/$1.log" | tail -n 20 >&2
         fail "target/$2 could not be built (target/built/$1.log has all that rt said)"
     }
     mv "$folder/$1.new" "$folder/$1" 2>/dev/null || fail "$folder cannot be written"

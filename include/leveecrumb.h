@@ -107,7 +107,7 @@ extern "C" {
 #define LEVEECRUMB_LINE_EXEC 0x84    /* run a program: object path's number, executed path's number (1 byte each), UID (4) and GID (4) after it */
 #define LEVEECRUMB_LINE_REFUSED 0x8f /* printed by pathcheck: number (1), line (2) */
 
-/* What a verdict means is proved of the bytes in the room (docs/PROMISES.md, `coded-tells`). */
+/* What a verdict means is proved of the bytes in the room (docs/PROMISES.md, `coded_tells`). */
 #define LEVEECRUMB_NEVER 0   /* verdict: no run of steps, of any length, on any file system, gets there */
 #define LEVEECRUMB_REACHED 1 /* verdict: the shown steps get there on every file system that has the named files, and no fewer steps on any */
 

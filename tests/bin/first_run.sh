@@ -1,7 +1,7 @@
 # Sourced by tests/bin/run: bin/pathcheck where its program is not built yet, in a checkout of its own, over a kit whose rt
 # is tests/bin/rt and which is else the machine's own.
 kit=$made/kit notes=$made/notes
-mkdir -p "$kit/bin" && cp tests/bin/rt "$kit/bin/rt" && ln -s "$(dirname "$(dirname "$(readlink -f "$(command -v rt)")")")/on" "$kit/on"
+mkdir -p "$kit/bin" && cp tests/bin/rt "$kit/bin/rt" && ln -s "$(dirname "$(dirname "$(readlink -f "$(command -v rt)")")")/toolchain" "$kit/toolchain"
 export PLAY_NOTES=$notes PLAY_PROGRAM=$made/program
 cp target/bin/pathcheck "$PLAY_PROGRAM"
 played=$kit/bin:$PATH
@@ -9,10 +9,10 @@ played=$kit/bin:$PATH
 # A checkout in which nothing is built.
 anew() {
     rm -rf "$made/checkout" "$notes"
-    mkdir -p "$made/checkout/docs" "$made/checkout/crates/paths/src"
+    mkdir -p "$made/checkout/docs" "$made/checkout/crates/paths/src" "$made/checkout/crates/pathcheck/src"
     cp -R bin include examples "$made/checkout/"
     cp docs/CHECKS.md "$made/checkout/docs/"
-    printf '# Three crates.\npaths:\nlines:\npathcheck: paths lines io libc\n' >"$made/checkout/crates.txt"
+    printf '# Three crates.\npaths:\nlines:\npathcheck: paths lines\n' >"$made/checkout/crates.txt"
     echo '// nothing' >"$made/checkout/crates/paths/src/lib.rt"
     : >"$notes"
 }

@@ -13,7 +13,7 @@ fn main() {
     // Said here, because the compiler's own message does not tell how to write it.
     if !archive.is_file() {
         eprintln!(
-            "{} is not there: `rt staticlib leveecrumb` writes it",
+            "{} is not there: `bin/install PREFIX` builds it",
             archive.display()
         );
         std::process::exit(1);

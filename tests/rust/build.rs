@@ -64,7 +64,7 @@ fn main() {
     if !archive.is_file() {
         let archive = archive.display();
         missing(&format!(
-            "{archive} is not there: `rt staticlib leveecrumb` writes it"
+            "{archive} is not there: `bin/install PREFIX` builds it"
         ));
     }
     let program = variable("OUT_DIR").join("bridge");

@@ -106,8 +106,7 @@ fn closing(o: Opened, v: Verdict) -> Replayed
 }
 
 // Whether a row of step records is a real run from the start to the access, under the policy of the text.
-#[unsafe(no_mangle)]
-pub extern "C" fn leveecrumb_replay(
+pub fn leveecrumb_replay(
     text: &[u8],
     store: &mut [u8],
     uid: u32,

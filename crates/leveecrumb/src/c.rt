@@ -1,4 +1,4 @@
-// The ask for C: numbers and byte areas alone. The work area is lent as bytes, two a number.
+// The ask over numbers and byte areas alone, as C asks it. The work area is lent as bytes, two a number.
 // What a reader must believe stands in `ask`'s specs/Ask.antt: `CodedAs`.
 ghost use Rattle.std.specs.Prelude.{◌≡◌, ◌≤◌};
 ghost use Rattle.lines.specs.Line.{zeros};
@@ -81,8 +81,7 @@ fn answer(
 
 // `ask` for C, with the answer as one number: the refusal, 0 for none, × 2^32, and the answer's length, the line or the bytes needed.
 // Bytes are no numbers to Rattle, so the numbers are the call's own; the lent bytes must have room for as many.
-#[unsafe(no_mangle)]
-pub extern "C" fn leveecrumb_ask(
+pub fn leveecrumb_ask(
     text: &[u8],
     store: &mut [u8],
     work: &mut [u8],

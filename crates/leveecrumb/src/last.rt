@@ -23,8 +23,7 @@ impl Part {
 }
 
 // The last file's path, by its number: 255 the whole start, else a part of the store, which is empty where the store's bytes name no such path.
-#[unsafe(no_mangle)]
-pub extern "C" fn leveecrumb_last_file(start: &[u8], store: &[u8], number: u8) -> Part
+pub fn leveecrumb_last_file(start: &[u8], store: &[u8], number: u8) -> Part
     ensures { LastPart start.now store.now number result }
 {
     if number == gran::NONE {

@@ -8,7 +8,7 @@ pub fn pathcheck(input: &[u8]) -> Vec<u8> {
     let program = repository().join("target/bin/pathcheck");
     assert!(
         program.is_file(),
-        "{} is not there: `rt check pathcheck` writes it",
+        "{} is not there: `bin/pathcheck FILE` builds it",
         program.display()
     );
     let mut child = command(&program).spawn().expect("bin/run can be started");
