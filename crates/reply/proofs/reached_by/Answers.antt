@@ -25,7 +25,7 @@ run_is c g = c.run_length-size.ensures (lying_of g c.requires.1 c.trace-n.ensure
 fits : (c : After-write_run-arg-1) → (g : Ended c.args.store.now c.args.t.now c.args.area.now c.args.z c.args.w c.args.start) →
     c.run_length-size.result ≡ length (step_lines (records_of (policy_in c.args.store.now) (start_of g.asked) (run_of g c.requires.1))) →
     length (lines_after g c.requires.1 c.trace-n.result) ≤ length c.args.room.now
-fits c g e = omega (arith, lines-length g c.requires.1 c.trace-n.ensures _ e, c.if-room-size.false)
+fits c g e = omega (arith, lines-length g c.requires.1 c.trace-n.ensures _ e)
 
 pub overflow_sub-opened : goal.overflow_sub-opened
 overflow_sub-opened c = omega (arith, (c.requires.0.met c.requires.1).some)
