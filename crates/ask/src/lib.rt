@@ -55,6 +55,7 @@ impl Answer {
 }
 
 // The answer as one number, for C.
+#[tactic(auto, unfolding(crate::specs::Ask::coded))]
 pub fn code(a: Answer) -> u64
     ensures { result ≡ coded a }
 {
@@ -87,6 +88,7 @@ fn names_nobody(uid: u32, gid: u32) -> bool
 }
 
 // The lowest of the refusals 1 to 6, over the lengths of text, store and work area, or 0.
+#[tactic(auto, unfolding(crate::specs::Ask::early))]
 pub fn early(
     text: usize,
     store: usize,

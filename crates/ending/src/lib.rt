@@ -134,6 +134,7 @@ pub fn subjects_in(store: &[u8], t: Tally) -> u8
 }
 
 // Refusal 16: too many states.
+#[tactic(auto, unfolding(gran::specs::Good::states_of))]
 pub fn is_crowded(t: Tally, subjects: u8) -> bool
     requires { Bounded t }
     ensures { (P : Policy) (rest bytes : List ℕ) → Holds P rest t bytes → subjects ≡ length (paths_of_s P) → result ≡ ltb 8192 (states_of P) }

@@ -63,6 +63,7 @@ pub fn byte(store: &[u8], at: usize) -> u8
 }
 
 // The number in the two bytes at `at`.
+#[tactic(auto, unfolding(crate::specs::Fields::word_at))]
 pub fn word(store: &[u8], at: usize) -> u16
     ensures { result ≡ word_at store.now at }
 {

@@ -18,6 +18,7 @@ pub const NONE: u8 = 255;
 pub const NO_ID: u32 = 4294967295;
 
 // Whether the bit, a power of two, is set.
+#[tactic(auto, unfolding(crate::specs::Access::has))]
 fn has_bit(bits: u8, bit: u8) -> bool
     requires { 0 < bit }
     ensures { result ≡ has bits bit }
@@ -50,6 +51,7 @@ impl Modes {
     }
 
     // Whether the modes have the bit, and not h.
+    #[tactic(auto, unfolding(crate::specs::Access::sees))]
     fn sees(self, bit: u8) -> bool
         requires { 0 < bit }
         ensures { result ≡ sees self.bits bit }
@@ -67,6 +69,7 @@ impl Modes {
     }
 
     // Whether the access of a kind is granted: 0 read, else write.
+    #[tactic(auto, unfolding(crate::specs::Access::grant, crate::specs::Access::asked))]
     pub fn grants(self, kind: u8) -> bool
         ensures { result ≡ grant kind self.bits }
     {
@@ -102,6 +105,7 @@ impl Caps {
 }
 
 // The role in force, of the three roles of a state and the default: special, user, group, default.
+#[tactic(auto, unfolding(crate::specs::Role::chosen))]
 pub fn role_in_force(special: u8, user: u8, group: u8, fallback: u8) -> u8
     ensures { result ≡ chosen special user group fallback }
 {
@@ -117,6 +121,7 @@ pub fn role_in_force(special: u8, user: u8, group: u8, fallback: u8) -> u8
 }
 
 // Whether a mode allows an id, which is listed or not: 0 all, 1 only those listed, 2 all but those listed.
+#[tactic(auto, unfolding(crate::specs::Role::allowed_by))]
 pub fn allowed_by(mode: u8, listed: bool, id: u32) -> bool
     ensures { result ≡ allowed_by mode listed id }
 {
@@ -133,6 +138,7 @@ pub fn allowed_by(mode: u8, listed: bool, id: u32) -> bool
 }
 
 // The exec rule: an id stays, or becomes any allowed one.
+#[tactic(auto, unfolding(crate::specs::Exec::exec_may))]
 pub fn exec_may(kept: bool, allowed: bool) -> bool
     ensures { result ≡ exec_may kept allowed }
 {

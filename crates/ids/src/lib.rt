@@ -94,6 +94,7 @@ fn mode(store: &[u8], kind: u8, entry: u8) -> u8
     }
 }
 
+#[tactic(auto, unfolding(crate::specs::Ids::id_count))]
 fn id_count(store: &[u8], kind: u8, entry: u8) -> u8
     ensures { result ≡ id_count store.now kind entry }
 {
@@ -104,6 +105,7 @@ fn id_count(store: &[u8], kind: u8, entry: u8) -> u8
     }
 }
 
+#[tactic(auto, unfolding(crate::specs::Ids::id_at))]
 fn id_at(store: &[u8], kind: u8, entry: u8, i: u8) -> u32
     ensures { result ≡ id_at store.now kind entry i }
 {
@@ -130,6 +132,7 @@ fn is_listed(store: &[u8], kind: u8, entry: u8, id: u32) -> bool
 }
 
 // Whether the entry allows the id.
+#[tactic(auto, unfolding(gran::specs::Role::allows))]
 fn allows(store: &[u8], kind: u8, entry: u8, id: u32) -> bool
     ensures { result ≡ allows (allowed_read store.now kind entry) id }
 {
@@ -162,6 +165,7 @@ fn is_free(store: &[u8], kind: u8, entry: u8, id: u32) -> bool
 }
 
 // The ids among which the smallest free one is: the listed ones where only those are allowed, else the first.
+#[tactic(auto, unfolding(crate::specs::Ids::candidate_count))]
 fn candidate_count(store: &[u8], kind: u8, entry: u8) -> u8
     ensures { result ≡ candidate_count store.now kind entry }
 {
@@ -172,6 +176,7 @@ fn candidate_count(store: &[u8], kind: u8, entry: u8) -> u8
     }
 }
 
+#[tactic(auto, unfolding(crate::specs::Ids::candidate_at))]
 fn candidate_at(store: &[u8], kind: u8, entry: u8, i: u8) -> u32
     ensures { result ≡ candidate_at store.now kind entry i }
 {
@@ -183,6 +188,7 @@ fn candidate_at(store: &[u8], kind: u8, entry: u8, i: u8) -> u32
 }
 
 // Candidate `i` where it is free, else the id that names nobody.
+#[tactic(auto, unfolding(crate::specs::Ids::offered))]
 fn free_at(store: &[u8], kind: u8, entry: u8, i: u8) -> u32
     ensures { (P : Policy) (rest : List ℕ) → Loaded P rest store.now → entry < length P.entries → result ≡ offered P kind (allowed_of kind (entry_at P entry)) (candidate_at store.now kind entry) i }
 {

@@ -1,13 +1,17 @@
 // Reading an input into a lent area. Rests on nothing.
 #![tactic(auto)]
 
-ghost use Rattle.std.specs.Prelude.{◌≤◌, length, IfOk};
+ghost use Rattle.std.specs.Prelude.{◌≤◌, ◌<◌, length, take, IfOk};
+ghost use Rattle.std.specs.Io.KnownBytes.{Consumes, IsAtEnd};
 
 use std::io::{self, Read};
 
-// Reads until the area is full or the input ends, and returns how many bytes stand in front.
+// Reads until the area is full or the input ends, and returns how many bytes stand in front: they are what the input gave, and fewer than
+// the area has room for only where it has no more.
 pub fn fill<R: Read>(input: &mut R, area: &mut [u8]) -> io::Result<usize>
-    ensures { IfOk result (λ n. n ≤ length area.new) }
+    ensures within { IfOk result (λ n. n ≤ length area.new) }
+    ensures bytes { IfOk result (λ n. Consumes (R.remaining input.old) (R.remaining input.new) (take n area.new)) }
+    ensures whole { IfOk result (λ n. n < length area.new → IsAtEnd (R.remaining input.new)) }
 {
     let mut done = 0;
     while done < area.len() {

@@ -18,6 +18,7 @@ pub mod range; // range.rt: refusal 10, whether the fields are in range
 pub mod second; // second.rt: refusal 11, whether the policy has a thing already
 
 // Whether the frame says again what the policy so far has.
+#[tactic(auto, unfolding(policy::specs::Frames::is_second, policy::specs::Frames::path_from))]
 fn is_second(store: &[u8], t: store::Tally, marks: &[u8], size: usize, bytes: &[u8]) -> bool
     requires bounded { Bounded t }
     requires le_size { (1 ≤ size) × (size ≤ length bytes.now) × (length bytes.now ≤ 80) × (length marks.now ≡ 1024) × (16384 ≤ length store.now) }
@@ -36,6 +37,7 @@ fn is_second(store: &[u8], t: store::Tally, marks: &[u8], size: usize, bytes: &[
 }
 
 // Whether the table of roles of a kind is full.
+#[tactic(auto, unfolding(policy::specs::Frames::full_of))]
 fn is_kind_full(t: store::Tally, kind: u8) -> bool
     ensures { (P : Policy) (rest bytes : List ℕ) → Holds P rest t bytes → result ≡ full_of P kind }
 {
@@ -48,6 +50,7 @@ fn is_kind_full(t: store::Tally, kind: u8) -> bool
 }
 
 // Whether the frame's table is full.
+#[tactic(auto, unfolding(policy::specs::Frames::is_full))]
 fn is_full(t: store::Tally, bytes: &[u8]) -> bool
     ensures { (P : Policy) (rest held : List ℕ) → Holds P rest t held → (size : ℕ) → result ≡ is_full P (frame_in size bytes.now) }
 {
@@ -63,6 +66,7 @@ fn is_full(t: store::Tally, bytes: &[u8]) -> bool
 }
 
 // The lowest refusal of a frame after so many lines, of which the last had the type `last`, or 0.
+#[tactic(auto, unfolding(policy::specs::Load::frame_refusal))]
 pub fn refusal(
     store: &[u8],
     t: store::Tally,

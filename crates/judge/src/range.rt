@@ -27,6 +27,7 @@ fn is_good_move(store: &[u8], t: store::Tally, bytes: &[u8]) -> bool
 }
 
 // 40: the numbers name a role and a path, and capabilities and modes are in range.
+#[tactic(auto, unfolding(policy::specs::Frames::good_entry))]
 fn is_good_entry(t: store::Tally, bytes: &[u8]) -> bool
     requires { Bounded t }
     ensures { (P : Policy) (rest held : List ℕ) → Holds P rest t held → (size : ℕ) → result ≡ good_entry P (entry_from (frame_in size bytes.now)) }
@@ -48,6 +49,7 @@ fn is_good_entry(t: store::Tally, bytes: &[u8]) -> bool
 }
 
 // 41: the number names a path, and the modes are in range.
+#[tactic(auto, unfolding(policy::specs::Frames::good_object))]
 fn is_good_object(t: store::Tally, bytes: &[u8]) -> bool
     ensures { (P : Policy) (rest held : List ℕ) → Holds P rest t held → (size : ℕ) → result ≡ good_object P (object_from (frame_in size bytes.now)) }
 {
@@ -61,6 +63,7 @@ fn is_good_object(t: store::Tally, bytes: &[u8]) -> bool
 }
 
 // 42 and 43: the id is in range, and its list is not under mode 0.
+#[tactic(auto, unfolding(policy::specs::Frames::good_id))]
 fn is_good_id(mode: u8, bytes: &[u8]) -> bool
     ensures { (a : Allowed) → mode ≡ a.mode → (size : ℕ) → result ≡ good_id a (id_from (frame_in size bytes.now)) }
 {
@@ -71,6 +74,7 @@ fn is_good_id(mode: u8, bytes: &[u8]) -> bool
 }
 
 // Whether every field of the frame is in range.
+#[tactic(auto, unfolding(policy::specs::Frames::in_range, policy::specs::Frames::path_from))]
 pub fn in_range(store: &[u8], t: store::Tally, size: usize, bytes: &[u8]) -> bool
     requires bounded { Bounded t }
     requires le_size { (1 ≤ size) × (size ≤ length bytes.now) × (16384 ≤ length store.now) }

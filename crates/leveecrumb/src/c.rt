@@ -14,12 +14,14 @@ use reply::FEW;
 pub const WORK: usize = 49152;
 
 // A work area of the call's own, for few states, and for as many as there can be.
+#[tactic(auto, unfolding(lines::specs::Line::zeros))]
 fn fresh_few() -> [u16; 3072]
     ensures { result ≡ zeros 3072 }
 {
     [0u16; 3072]
 }
 
+#[tactic(auto, unfolding(lines::specs::Line::zeros))]
 fn fresh() -> [u16; 24576]
     ensures { result ≡ zeros 24576 }
 {

@@ -19,6 +19,7 @@ pub struct Frame {
 }
 
 // The lowercase digit of a value below 16.
+#[tactic(auto, unfolding(crate::specs::Line::digit_of))]
 fn digit(value: u8) -> u8
     requires { value < 16 }
     ensures { result ≡ digit_of value }
@@ -69,6 +70,7 @@ pub fn line_length(text: &[u8]) -> usize
 }
 
 // The frame of a line that is not good.
+#[tactic(auto, unfolding(crate::specs::Line::frame_of, crate::specs::Line::zeros))]
 fn empty() -> Frame
     ensures { result ≡ frame_of [] }
 {
@@ -123,6 +125,7 @@ pub fn decode_first(text: &[u8], values: &[u16; 256], bytes: &mut [u8; 80]) -> u
 }
 
 // The frame of a text's first line; size 0 where that line is not good.
+#[tactic(auto, unfolding(crate::specs::Line::zeros))]
 pub fn decode(text: &[u8]) -> Frame
     ensures { result ≡ decoded (first_line text.now) }
 {

@@ -22,6 +22,7 @@ fn report<W: Write>(text: &[u8], store: &mut [u8], printed: &mut W) -> io::Resul
     printed.write_all(&room)
 }
 
+#[tactic(auto, using(cases::proofs::Inside::case_inside))]
 fn report_all<W: Write>(input: &[u8], store: &mut [u8], printed: &mut W) -> io::Result<()> {
     let mut at = 0;
     loop {

@@ -65,6 +65,7 @@ enum Row {
 }
 
 // How specific path `c` is for `file`; a path that no policy holds is not at all.
+#[tactic(auto, unfolding(crate::specs::Best::grade_in))]
 fn grade(store: &[u8], file: &[u8], c: u8) -> u8
     ensures { result ≡ grade_in store.now file.now c }
 {
@@ -117,6 +118,7 @@ fn grade_of(of: &[u8], c: u8) -> u8
 }
 
 // The grade of the subject of entry `i` where that is of the role.
+#[tactic(auto, unfolding(crate::specs::Best::grade_at))]
 fn role_grade(store: &[u8], of: &[u8], role: u8, i: u8) -> u8
     ensures { result ≡ grade_at store.now of.now (OfRole role) i }
 {
@@ -127,6 +129,7 @@ fn role_grade(store: &[u8], of: &[u8], role: u8, i: u8) -> u8
 }
 
 // The grade of the path at place `i` of a row.
+#[tactic(auto, unfolding(crate::specs::Best::grade_at))]
 fn grade_at(store: &[u8], of: &[u8], row: Row, i: u8) -> u8
     ensures { result ≡ grade_at store.now of.now row i }
 {
@@ -213,6 +216,7 @@ pub fn index_objects(store: &[u8], index: &mut [u8])
 }
 
 // Whether a cell has something noted for a path that has a greater grade than what was found so far.
+#[tactic(auto, unfolding(crate::specs::Index::is_better))]
 fn is_better(cell: u8, most: u8, grade: u8) -> bool
     ensures { result ≡ is_better cell most grade }
 {

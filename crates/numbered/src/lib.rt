@@ -32,6 +32,7 @@ pub struct Digits {
 
 impl Digits {
     // The number that has these digits.
+    #[tactic(auto, unfolding(crate::specs::Number::number_of))]
     pub fn number(self, z: Sizes) -> usize
         requires { Sized z × Among z self }
         ensures { result ≡ number_of z self }
@@ -42,6 +43,7 @@ impl Digits {
     }
 
     // The digits of a number.
+    #[tactic(auto, unfolding(crate::specs::Number::digits_of))]
     pub fn of(n: usize, z: Sizes) -> Self
         requires { Sized z }
         ensures { result ≡ digits_of z n }

@@ -11,6 +11,7 @@ const SLASH: u8 = 47;
 const LONGEST: usize = 64;
 
 // Whether a path may hold `b`; `policy`: a path of a policy.
+#[tactic(auto, unfolding(crate::specs::Path::plain))]
 fn is_plain(b: u8, policy: bool) -> bool
     ensures { result ≡ plain policy b }
 {

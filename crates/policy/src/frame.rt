@@ -78,6 +78,7 @@ pub fn byte(bytes: &[u8], at: usize) -> u8
 }
 
 // The number in two bytes from a place on.
+#[tactic(auto, unfolding(crate::specs::Frames::number2))]
 pub fn number2(bytes: &[u8], at: u8) -> usize
     ensures { (size : ℕ) → result ≡ number2 (frame_in size bytes.now) at }
 {
@@ -86,6 +87,7 @@ pub fn number2(bytes: &[u8], at: u8) -> usize
 }
 
 // The number in four bytes from a place on.
+#[tactic(auto, unfolding(crate::specs::Frames::number4))]
 pub fn number4(bytes: &[u8], at: u8) -> u32
     ensures { (size : ℕ) → result ≡ number4 (frame_in size bytes.now) at }
 {
@@ -113,6 +115,7 @@ pub fn fits_type(kind: u8, size: usize) -> bool
 }
 
 // Whether a frame of type `kind` may follow one of type `last`, 0 at the start.
+#[tactic(auto, unfolding(crate::specs::Frames::may_follow))]
 pub fn may_follow(last: u8, kind: u8) -> bool
     ensures { result ≡ may_follow last kind }
 {
@@ -138,6 +141,7 @@ pub fn may_follow(last: u8, kind: u8) -> bool
 }
 
 // Whether the role's kind and id are in range.
+#[tactic(auto, unfolding(crate::specs::Frames::good_role))]
 pub fn is_good_role(bytes: &[u8]) -> bool
     ensures { (size : ℕ) → result ≡ good_role (role_from (frame_in size bytes.now)) }
 {
@@ -159,6 +163,7 @@ pub fn is_good_role(bytes: &[u8]) -> bool
 }
 
 // Whether a 7f counts other than the lines before it.
+#[tactic(auto, unfolding(crate::specs::Frames::miscounts))]
 pub fn is_miscounted(lines: usize, bytes: &[u8]) -> bool
     ensures { (size : ℕ) → result ≡ miscounts lines (frame_in size bytes.now) }
 {

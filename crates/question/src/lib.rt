@@ -42,6 +42,7 @@ fn fits(f: Frame, kind: u8, shortest: usize, longest: usize) -> bool
 }
 
 // Writes a refusal's line in front of the output: its length, or 0 where it does not fit.
+#[tactic(auto, unfolding(store::specs::Layout::two))]
 fn refuse(number: u8, line: usize, output: &mut [u8]) -> usize
     ensures { EncodedAs (refusal number line) output.old result output.new }
 {

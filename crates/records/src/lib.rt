@@ -34,12 +34,14 @@ struct Two(u8, u8);
 #[derive(Clone, Copy)]
 struct Four(u8, u8, u8, u8);
 
+#[tactic(auto, unfolding(store::specs::Layout::two))]
 fn two_bytes(n: u16) -> Two
     ensures { result.0 ∷ result.1 ∷ [] ≡ two n }
 {
     Two((n / 256 % 256) as u8, (n % 256) as u8)
 }
 
+#[tactic(auto, unfolding(store::specs::Layout::four))]
 fn four_bytes(n: u32) -> Four
     ensures { result.0 ∷ result.1 ∷ result.2 ∷ result.3 ∷ [] ≡ four n }
 {

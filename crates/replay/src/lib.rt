@@ -28,6 +28,7 @@ pub enum Verdict {
 }
 
 // The last file's path: the whole start where nothing was executed, else a part of the store.
+#[tactic(auto, unfolding(crate::specs::Replay::last_file, crate::specs::Replay::last_area, crate::specs::Replay::last_place))]
 pub fn last_file<'a>(start: &'a [u8], store: &'a [u8], number: u8) -> &'a [u8]
     ensures { Handed (last_area start.entry.ref_ptr store.entry.ref_ptr number) (last_place store.now number) (last_file start.now store.now number) result.ref_ptr result.now }
 {
@@ -38,6 +39,7 @@ pub fn last_file<'a>(start: &'a [u8], store: &'a [u8], number: u8) -> &'a [u8]
 }
 
 // The role in force.
+#[tactic(auto, unfolding(gran::specs::Role::in_force))]
 fn role_of(store: &[u8], p: gran::Process) -> u8
     ensures { (P : Policy) (rest : List ℕ) → Loaded P rest store.now → result ≡ in_force P p.special (role_of P USER p.uid) (role_of P GROUP p.gid) }
 {
@@ -86,6 +88,7 @@ fn all_zero(a: u32, b: u32, c: u8, d: u8) -> bool
 }
 
 // Whether the kind is a step line's type, and the fields that its line does not carry are 0.
+#[tactic(auto, unfolding(crate::specs::Replay::plainly))]
 fn is_plain(kind: u8, role: u8, uid: u32, gid: u32, object: u8, file: u8) -> bool
     ensures { result ≡ plainly (step_of kind role uid gid object file) }
 {
@@ -201,6 +204,7 @@ fn may_do(
 }
 
 // Whether a record is a real step of the process.
+#[tactic(auto, unfolding(crate::specs::Replay::is_step))]
 pub fn is_step(
     store: &[u8],
     begin: &[u8],
@@ -247,6 +251,7 @@ struct Walk {
 }
 
 // Before the first of `count` records.
+#[tactic(auto, unfolding(crate::specs::Progress::opened))]
 fn begun(uid: u32, gid: u32, count: usize) -> Walk
     ensures { result ≡ opened uid gid count }
 {
@@ -259,6 +264,7 @@ fn begun(uid: u32, gid: u32, count: usize) -> Walk
 }
 
 // The process after a record.
+#[tactic(auto, unfolding(crate::specs::Replay::after))]
 fn moved(p: gran::Process, x: records::Step) -> gran::Process
     ensures { result ≡ after p x }
 {
@@ -276,6 +282,7 @@ fn moved(p: gran::Process, x: records::Step) -> gran::Process
 }
 
 // One record further, or stopped before it where it is no real step.
+#[tactic(auto, unfolding(crate::specs::Progress::advanced))]
 fn advance(store: &[u8], begin: &[u8], w: Walk, x: records::Step) -> Walk
     requires { w.at < w.stop }
     ensures { Advanced store.now begin.now w x result }
@@ -300,6 +307,7 @@ fn advance(store: &[u8], begin: &[u8], w: Walk, x: records::Step) -> Walk
 }
 
 // What a walk that is at its end says.
+#[tactic(auto, unfolding(crate::specs::Progress::concluded))]
 fn conclude(store: &[u8], begin: &[u8], target: &[u8], kind: u8, w: Walk) -> Verdict
     ensures { (P : Policy) (rest : List ℕ) → Loaded P rest store.now → result ≡ concluded P (record { kind = kind; target = target.now }) begin.now w }
 {

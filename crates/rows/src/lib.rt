@@ -84,6 +84,7 @@ pub fn put(part: &mut [u8], at: usize, v: u8)
 }
 
 // Fills a part with zeros.
+#[tactic(auto, unfolding(lines::specs::Line::zeros))]
 pub fn clear(part: &mut [u8])
     ensures { part.new ≡ zeros (length part.old) }
 {

@@ -19,6 +19,7 @@ fn answer<W: Write>(input: &[u8], output: &mut [u8], printed: &mut W) -> io::Res
     printed.write_all(&output[..size])
 }
 
+#[tactic(auto, using(cases::proofs::Inside::case_inside))]
 fn answer_all<W: Write>(input: &[u8], output: &mut [u8], printed: &mut W) -> io::Result<()> {
     let mut at = 0;
     loop {

@@ -48,6 +48,7 @@ fn few(n: usize, most: usize) -> bool
 }
 
 // Whether the tables have room for the sizes.
+#[tactic(auto, unfolding(numbered::specs::Number::all_states))]
 fn is_sized(z: Sizes) -> bool
     ensures { (result ≡ true → Sized z) × (Sized z → result ≡ true) }
 {

@@ -154,6 +154,7 @@ impl Tally {
 }
 
 // An id in four bytes, as rows hold it.
+#[tactic(auto, unfolding(crate::specs::Layout::four))]
 pub fn id_bytes(id: u32) -> [u8; 4]
     ensures { result ≡ four id }
 {

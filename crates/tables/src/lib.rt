@@ -180,6 +180,7 @@ fn reach(store: &[u8], kind: u8, e: u8, choice: u8) -> bool
 }
 
 // Whether a row has the choice: a role may take the special role, an entry allows an id that has the user or group role.
+#[tactic(auto, unfolding(crate::specs::Regions::offers, crate::specs::Regions::rows_for))]
 fn offered(store: &[u8], kind: u8, row: u8, choice: u8) -> bool
     requires { (kind ≡ SPECIAL → ⊥) → Named kind }
     ensures { (P : Policy) (rest : List ℕ) → Loaded P rest store.now → row < rows_for P kind → Choice P kind choice → result ≡ offers P kind row choice }

@@ -53,6 +53,7 @@ pub fn visit(
 }
 
 // A step that may not be allowed.
+#[tactic(auto, unfolding(crate::specs::Walk::visits))]
 pub fn offer(
     area: &mut [u16],
     t: &[u8],

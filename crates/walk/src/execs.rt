@@ -20,6 +20,7 @@ use numbered::{Digits, Sizes};
 use tables::cell;
 
 // Whether subject `k` is in the object's image.
+#[tactic(auto, unfolding(numbered::specs::Candidates::in_image))]
 fn in_image(t: &[u8], x: Exec, k: usize) -> bool
     requires { k < 64 }
     ensures { result ≡ in_image t.now x.from x.place x.path k }
@@ -58,6 +59,7 @@ fn collect(t: &[u8], x: Exec, subjects: usize, out: &mut [u8]) -> usize
 }
 
 // Whether choice `j` is another than the kept one, and allowed.
+#[tactic(auto, unfolding(crate::specs::Image::is_another))]
 fn is_another(t: &[u8], cells: usize, kept: usize, j: usize) -> bool
     requires { (cells ≤ 8192) × (j < 16) }
     ensures { result ≡ is_another t.now cells kept j }

@@ -106,6 +106,7 @@ pub fn search(area: &mut [u16], store: &[u8], t: &[u8], z: Sizes, start: usize) 
 }
 
 // Zero in every number.
+#[tactic(auto, unfolding(lines::specs::Line::zeros))]
 pub fn clear(area: &mut [u16])
     ensures { area.new ≡ zeros (length area.old) }
 {

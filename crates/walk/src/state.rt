@@ -10,6 +10,7 @@ use numbered::{Digits, Sizes};
 use tables::cell;
 
 // How many states there are.
+#[tactic(auto, unfolding(numbered::specs::Number::all_states))]
 pub fn all_states(z: Sizes) -> usize
     requires { Sized z }
     ensures { result ≡ all_states z }
@@ -18,6 +19,7 @@ pub fn all_states(z: Sizes) -> usize
 }
 
 // A cell as a test.
+#[tactic(auto, unfolding(tables::specs::Tables::is_set))]
 pub fn is_set(t: &[u8], i: usize) -> bool
     ensures { result ≡ is_set t.now i }
 {
@@ -25,6 +27,7 @@ pub fn is_set(t: &[u8], i: usize) -> bool
 }
 
 // The role in force.
+#[tactic(auto, unfolding(numbered::specs::Candidates::role_at))]
 pub fn role_at(t: &[u8], d: Digits) -> u8
     requires { Celled d }
     ensures { result ≡ role_at t.now d }

@@ -8,6 +8,7 @@ ghost use Rattle.store.specs.Grow.{new_entry};
 use store::{Tally, id_bytes};
 
 // A role's kind and id, and the bytes that are kept for a name.
+#[tactic(auto, unfolding(store::specs::Layout::four, store::specs::Layout::role_row, lines::specs::Line::zeros))]
 pub fn role_row(kind: u8, id: u32) -> [u8; 22]
     ensures { result ≡ role_row (record { kind = kind; id = id }) }
 {
@@ -22,6 +23,7 @@ pub fn role_row(kind: u8, id: u32) -> [u8; 22]
 }
 
 // Where a path's bytes are, and how many.
+#[tactic(auto, unfolding(store::specs::Layout::two))]
 pub fn place_row(at: usize, size: usize) -> [u8; 3]
     ensures { result ≡ two at ++ (size % 256 ∷ []) }
 {
@@ -29,6 +31,7 @@ pub fn place_row(at: usize, size: usize) -> [u8; 3]
 }
 
 // An entry with no object and no id yet: its first would be at these places.
+#[tactic(auto, unfolding(store::specs::Layout::two, store::specs::Layout::entry_row))]
 pub fn entry_row(
     object: usize,
     id: usize,
@@ -57,6 +60,7 @@ pub fn entry_row(
 }
 
 // The header by the tallies: a form, counts, and where the moves begin in the pool.
+#[tactic(auto, unfolding(store::specs::Layout::two, crate::specs::Added::header_of))]
 pub fn header_row(t: Tally, root: u8, subjects: u8) -> [u8; 16]
     requires { Bounded t }
     ensures { result ≡ header_of t root subjects }

@@ -7,7 +7,7 @@ use mathlib.Core.List.{[]}
 use mathlib.Core.Bool.{true, false}
 use borrow.Author.Tests.{eq-eqb, ne_eqb}
 use Rattle.store.specs.Layout.{root_of}
-use Rattle.ending.proofs.Roots.{place-next, place_end}
+use Rattle.ending.proofs.Roots.{place-next}
 use Rattle.ending.proofs.Stored.{slash_read}
 use Rattle.ending.proofs.root_of.Goals as goal
 
@@ -28,6 +28,3 @@ loop-i-preserved c = (
   λ P rest sound h. let l = c.loop-i in let within : l.i < length P.paths = omega (arith, h.paths) in l.invariant.1 P rest sound h
       ∙ place-next is_slash P.paths [] l.i within false (sym (slash_read P rest c.args.t c.args.store.now c.requires.bounded h sound l.i within ∙ ne_eqb _ _ c.if-store-i-eq1.false)),
 )
-
-pub returns : goal.returns
-returns c = λ P rest sound h. sym (c.loop-i.invariant.1 P rest sound h ∙ place_end is_slash P.paths c.loop-i.i (omega (arith, h.paths)))

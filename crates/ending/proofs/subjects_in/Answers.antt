@@ -5,7 +5,7 @@ use lib.ListN.{length}
 use mathlib.Core.Bool.{true, false}
 use native.Mathlib.Nat.{sub-zero, zero-add}
 use Rattle.gran.specs.Match.{is_subject, paths_of_s}
-use Rattle.ending.proofs.Roots.{counted, count-end}
+use Rattle.ending.proofs.Roots.{counted}
 use Rattle.ending.proofs.subjects_in.Goals as goal
 
 pub loop-i-init : goal.loop-i-init
@@ -31,6 +31,3 @@ loop-i-preserved c = (
       let marks = c.subject_marks-marks in
       l.invariant.2 P rest sound h ∙ counted (is_subject P) (length P.paths) l.i l.count (omega (arith, h.paths)) false (sym (marks.ensures P rest sound h l.i ∙ ne_eqb _ _ c.if-mark-eq1.false)),
 )
-
-pub returns : goal.returns
-returns c = λ P rest sound h. sym (c.loop-i.invariant.2 P rest sound h ∙ rw (count-end (is_subject P) (length P.paths) c.loop-i.i (omega (arith, h.paths))) (omega arith))

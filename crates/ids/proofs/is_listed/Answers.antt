@@ -1,14 +1,10 @@
 use mathlib.Core.Path.{sym, ◌∙◌}
-use native.Mathlib.Nat.{sub-zero}
 use native.Mathlib.Omega.{arith}
 use lib.Dec.{eqb}
 use borrow.Author.Tests.{eq-eqb, ne_eqb}
 use Rattle.ids.specs.Ids.{id_at}
 use Rattle.ids.proofs.Rows.{any_here, any_next, any-end}
 use Rattle.ids.proofs.is_listed.Goals as goal
-
-pub loop-i-init : goal.loop-i-init
-loop-i-init c = (omega arith, rw sub-zero)
 
 pub returns-then-id-id_at : goal.returns-then-id-id_at
 returns-then-id-id_at c =

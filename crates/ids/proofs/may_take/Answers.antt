@@ -1,6 +1,5 @@
 use mathlib.Core.Path.{◌≡◌, sym, ◌∙◌}
 use mathlib.Core.Bool.{true, false}
-use native.Mathlib.Nat.{sub-zero}
 use native.Mathlib.Omega.{arith}
 use borrow.Author.Tests.{eq-eqb, ne_eqb}
 use Rattle.gran.specs.Lists.{any}
@@ -13,9 +12,6 @@ use Rattle.ids.proofs.may_take.Goals as goal
 pub returns-then-special-eq-NONE : goal.returns-then-special-eq-NONE
 unfolding may_take
 returns-then-special-eq-NONE c P rest L = rw (eq-eqb _ _ c.if-special-eq-NONE.true)
-
-pub loop-i-init : goal.loop-i-init
-loop-i-init c = (omega arith, rw sub-zero)
 
 pub returns-then-is_move : goal.returns-then-is_move
 returns-then-is_move c P rest L =

@@ -1,14 +1,10 @@
 use mathlib.Core.Path.{sym, ◌∙◌}
-use native.Mathlib.Nat.{sub-zero}
 use native.Mathlib.Omega.{arith}
 use Rattle.gran.specs.Role.{is_role}
 use Rattle.fields.specs.Fields.{role_read}
 use Rattle.ids.proofs.Read.{role-read}
 use Rattle.ids.proofs.Rows.{place_here, place-next, place_end}
 use Rattle.ids.proofs.role_of.Goals as goal
-
-pub loop-r-init : goal.loop-r-init
-loop-r-init c = (omega arith, rw sub-zero)
 
 pub returns-then-is_role : goal.returns-then-is_role
 returns-then-is_role c P rest L =

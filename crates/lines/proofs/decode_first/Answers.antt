@@ -1,9 +1,6 @@
 use native.Mathlib.Omega.{arith}
-use Rattle.lines.proofs.Decoding.{decoding_starts, decoding_goes_on, decoding_answers}
+use Rattle.lines.proofs.Decoding.{decoding_goes_on, decoding_answers}
 use Rattle.lines.proofs.decode_first.Goals as goal
-
-pub loop-k-init : goal.loop-k-init
-loop-k-init c = rw c.requires.1 (decoding_starts _)
 
 pub returns-then-value-gt255 : goal.returns-then-value-gt255
 returns-then-value-gt255 c = decoding_answers _ _ _ _ c.loop-k.invariant (λ h l. omega arith) c.ends.ensures

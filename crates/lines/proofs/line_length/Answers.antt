@@ -3,9 +3,6 @@ use borrow.Author.Rules.{rules}
 use Rattle.lines.proofs.Lines.{line_hit, line_miss, line-end}
 use Rattle.lines.proofs.line_length.Goals as goal
 
-pub loop-i-init : goal.loop-i-init
-loop-i-init c = (search rules, omega arith)
-
 pub returns-then-text-i-eq-LF : goal.returns-then-text-i-eq-LF
 returns-then-text-i-eq-LF c =
     omega (arith, line_hit c.args.text.now c.loop-i.i c.loop-i-test.true c.if-text-i-eq-LF.true)

@@ -1,17 +1,9 @@
 -- `lines::pair_value` meets its contract: the sum of the two values says whether both are digits.
 use mathlib.Core.Path.{ap₂}
 use Prim.Native.Nat.{ℕ, ◌+◌, ◌*◌}
-use native.Mathlib.Omega.{arith}
 use borrow.Author.Rules.{rules}
-use Rattle.lines.proofs.Values.{value_most, pair-sum}
+use Rattle.lines.proofs.Values.{pair-sum}
 use Rattle.lines.proofs.pair_value.Goals as goal
-
-pub overflow_mul-value : goal.overflow_mul-value
-overflow_mul-value c = omega (arith, value_most c.args.values.now c.requires c.args.a (search rules))
-
-pub overflow_add-value : goal.overflow_add-value
-overflow_add-value c =
-    omega (arith, value_most c.args.values.now c.requires c.args.a (search rules), value_most c.args.values.now c.requires c.args.b (search rules))
 
 pub returns-then-value-gt255 : goal.returns-then-value-gt255
 returns-then-value-gt255 c =

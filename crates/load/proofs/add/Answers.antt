@@ -1,4 +1,5 @@
 -- `load::add` meets its contract: at each arm the type picks the writer.
+use native.Mathlib.Omega.{arith}
 use mathlib.Core.Path.{◌∙◌, sym}
 use Rattle.policy.specs.Frames.{frame_in}
 use Rattle.load.proofs.Framing.{role_room, path_room, move_room, entry_room, object_room, uid_room, gid_room, role_added, path_added, move_added, entry_added, object_added, uid_added, gid_added, none_added}
@@ -83,13 +84,12 @@ returns-in-67 c =
 pub returns-in_default : goal.returns-in_default
 returns-in_default c =
     let e = c.byte.ensures in
-    let r = c.in_default.in_default-own.rest in
     none_added (frame_in c.args.size c.args.bytes.now) c.args.t c.args.store.now (record {
-      not_10 = λ x. r.0.0.0.0.0.0.1 (e ∙ x);
-      not_20 = λ x. r.0.0.0.0.0.1 (e ∙ x);
-      not_30 = λ x. r.0.0.0.0.1 (e ∙ x);
-      not_40 = λ x. r.0.0.0.1 (e ∙ x);
-      not_41 = λ x. r.0.0.1 (e ∙ x);
-      not_42 = λ x. r.0.1 (e ∙ x);
-      not_43 = λ x. r.1 (e ∙ x);
+      not_10 = λ x. omega (arith, e, x);
+      not_20 = λ x. omega (arith, e, x);
+      not_30 = λ x. omega (arith, e, x);
+      not_40 = λ x. omega (arith, e, x);
+      not_41 = λ x. omega (arith, e, x);
+      not_42 = λ x. omega (arith, e, x);
+      not_43 = λ x. omega (arith, e, x);
     })

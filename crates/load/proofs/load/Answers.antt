@@ -26,11 +26,6 @@ returns-then-refusal-ne0 c =
     second.false _ _ _ (r.stopped c.if-refusal-ne0.true)
     (cleared-again _ c.args.store.now _ read-lines.new.store second.false clear.ensures (room_kept (read-lines.ensures.kept ∙ cleared-length _ c.args.store.now second.false clear.ensures) second.false) r.past c.clear-then-refusal-ne0.ensures)
 
-pub settle-number-requires : goal.settle-number-requires
-settle-number-requires c =
-    let second = c.if-store-lt16384 in
-    let read-lines = c.read_lines-read in record { bounded = (read-lines.ensures.whole c.if-refusal-ne0.false).bounded; in_bounds = room_kept (read-lines.ensures.kept ∙ cleared-length _ c.args.store.now second.false c.clear.ensures) second.false }
-
 pub returns-then-number-ne0 : goal.returns-then-number-ne0
 returns-then-number-ne0 c =
     let second = c.if-store-lt16384 in

@@ -1,5 +1,5 @@
 -- `load::read_line` meets its contract: a bad line, a refused frame, an added one.
-use mathlib.Core.Path.{refl, sym}
+use mathlib.Core.Path.{refl}
 use native.Mathlib.Omega.{arith}
 use Rattle.lines.specs.Line.{zeros, frame_of}
 use Rattle.load.proofs.OneLine.{refused-7, frame_long, frame_sized, refused-by, can-add, line_added}
@@ -15,9 +15,6 @@ returns-then-count-eq0 c =
     let args = c.args in
     rw c.refused.ensures (refused-7 args.t args.last args.before args.text.now args.store.now args.marks.now (rw (c.decode_first-count.ensures.none c.if-count-eq0.true)))
 
-pub slice_bounds-refusal-end : goal.slice_bounds-refusal-end
-slice_bounds-refusal-end c = sym (frame_long c.args.text.now _ (c.decode_first-count.ensures.whole c.if-count-eq0.false) c.if-count-eq0.false)
-
 pub refusal-number-requires : goal.refusal-number-requires
 refusal-number-requires c =
     let sized = frame_sized c.args.text.now _ (c.decode_first-count.ensures.whole c.if-count-eq0.false) c.if-count-eq0.false in
@@ -28,19 +25,10 @@ returns-then-number-ne0 c =
     let args = c.args in
     rw c.refused-then-number-ne0.ensures (refused-by args.text.now _ (c.decode_first-count.ensures.whole c.if-count-eq0.false) c.if-count-eq0.false args.t args.last args.before args.store.now args.marks.now _ c.refusal-number.ensures c.if-number-ne0.true)
 
-pub slice_bounds-byte-end : goal.slice_bounds-byte-end
-slice_bounds-byte-end c = sym (frame_long c.args.text.now _ (c.decode_first-count.ensures.whole c.if-count-eq0.false) c.if-count-eq0.false)
-
-pub slice_bounds-add-end : goal.slice_bounds-add-end
-slice_bounds-add-end c = sym (frame_long c.args.text.now _ (c.decode_first-count.ensures.whole c.if-count-eq0.false) c.if-count-eq0.false)
-
 pub add-tally-requires : goal.add-tally-requires
 add-tally-requires c =
     let args = c.args in
     record { ready = can-add c.args.text.now _ (c.decode_first-count.ensures.whole c.if-count-eq0.false) c.if-count-eq0.false args.t args.last args.before args.store.now args.marks.now _ c.refusal-number.ensures c.if-number-ne0.false c.requires.can_read; in_bounds = c.requires.digits.1 }
-
-pub slice_bounds-note-end : goal.slice_bounds-note-end
-slice_bounds-note-end c = sym (frame_long c.args.text.now _ (c.decode_first-count.ensures.whole c.if-count-eq0.false) c.if-count-eq0.false)
 
 pub note-requires : goal.note-requires
 note-requires c =

@@ -14,9 +14,6 @@ read_line-step-requires c =
     let l = c.loop-at in
     record { can_read = can_read c.args.text.now (drop 16384 c.args.store.now) l.store l.marks l.t l.last l.line l.at l.invariant.0 c.requires.text_len_bound.0; digits = (c.digits-values.ensures, l.invariant.2, l.invariant.3) }
 
-pub overflow_add-line : goal.overflow_add-line
-overflow_add-line c = omega (arith, c.loop-at.invariant.0.count)
-
 pub returns-then-number-ne0 : goal.returns-then-number-ne0
 returns-then-number-ne0 c =
     let l = c.loop-at in

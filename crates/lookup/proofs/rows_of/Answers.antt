@@ -17,12 +17,6 @@ pub loop-q-init : goal.loop-q-init
 loop-q-init c =
     (omega arith, omega arith, omega arith, omega arith, omega arith, λ P rest L named. (tops-none 32 _ _ _ _ (λ k h. get_or-replicate {A = ℕ} 32 k 0 0 h), tops-none 64 _ _ _ _ (λ k h. get_or-replicate {A = ℕ} 64 k 0 0 h)))
 
-pub slice_bounds-take_rows-end : goal.slice_bounds-take_rows-end
-slice_bounds-take_rows-end c = omega arith
-
-pub slice_bounds-take_rows-end-in-loop-q : goal.slice_bounds-take_rows-end-in-loop-q
-slice_bounds-take_rows-end-in-loop-q c = omega arith
-
 pub take_rows-requires : goal.take_rows-requires
 take_rows-requires c =
     let pre = c.requires.entries_value in

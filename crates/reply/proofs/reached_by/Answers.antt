@@ -9,7 +9,7 @@ use Rattle.ask.specs.Ask.{start_of}
 use Rattle.reply.specs.Run.{Ended}
 use Rattle.reply.proofs.Ends.{told_short, told-whole, run_of, lines_after, traced, lying_of, run_few, lines-length, lines_right, writable_of, wrote_none}
 use Rattle.reply.proofs.reached_by.Goals as goal
-use Rattle.reply.proofs.reached_by.Goals.{After-run_length-size, After-write_run-arg-1}
+use Rattle.reply.proofs.reached_by.Goals.{After-run_length-size}
 
 -- What a search for an ask has come to.
 abbrev Over : After-run_length-size → Type 0
@@ -20,18 +20,6 @@ run_is : (c : After-run_length-size) → (g : Over c) →
     c.run_length-size.result ≡ length (step_lines (records_of (policy_in c.args.store.now) (start_of g.asked) (run_of g c.requires.1)))
 unfolding lying_of
 run_is c g = c.run_length-size.ensures (lying_of g c.requires.1 c.trace-n.ensures) (start_of g.asked)
-
--- The lines fit.
-fits : (c : After-write_run-arg-1) → (g : Ended c.args.store.now c.args.t.now c.args.area.now c.args.z c.args.w c.args.start) →
-    c.run_length-size.result ≡ length (step_lines (records_of (policy_in c.args.store.now) (start_of g.asked) (run_of g c.requires.1))) →
-    length (lines_after g c.requires.1 c.trace-n.result) ≤ length c.args.room.now
-fits c g e = omega (arith, lines-length g c.requires.1 c.trace-n.ensures _ e)
-
-pub overflow_sub-opened : goal.overflow_sub-opened
-overflow_sub-opened c = omega (arith, (c.requires.0.met c.requires.1).some)
-
-pub trace-n-requires : goal.trace-n-requires
-trace-n-requires c = ((c.requires.0.met c.requires.1).rooted, omega (arith, c.requires.2))
 
 pub run_length-size-requires : goal.run_length-size-requires
 run_length-size-requires c = lying_of c.requires.0 c.requires.1 c.trace-n.ensures
@@ -49,16 +37,11 @@ returns-then-room-size c g =
 pub overflow_cast-n : goal.overflow_cast-n
 overflow_cast-n c = omega (arith, (traced c.requires.0 c.requires.1 c.trace-n.ensures).few)
 
-pub bounds-area-0 : goal.bounds-area-0
-bounds-area-0 c =
-    let r = (c.requires.0.met c.requires.1).rooted in
-    omega (arith, r.long, r.within)
-
 pub write_run-requires : goal.write_run-requires
 write_run-requires c =
     let x = c.trace-n.ensures in
     let at = goal.at.write_run-requires c in
-    let fit = fits at.After-write_run-arg-1 c.requires.0 (run_is at.After-run_length-size c.requires.0) in
+    let fit : length (lines_after c.requires.0 c.requires.1 c.trace-n.result) ≤ length c.args.room.now = omega (arith, lines-length c.requires.0 c.requires.1 x _ (run_is at.After-run_length-size c.requires.0)) in
     (writable_of c.requires.0 c.requires.1 x c.args.room.now fit, wrote_none c.requires.0 c.requires.1 x c.args.room.now fit _ _ c.put_summary-at.ensures)
 
 pub returns : goal.returns
@@ -67,10 +50,11 @@ returns c g =
     let m = c.requires.1 in
     let x = c.trace-n.ensures in
     let lines = lines_after g m c.trace-n.result in
-    let fit = fits (goal.at.returns c).After-write_run-arg-1 g (run_is (goal.at.returns c).After-run_length-size g) in
+    let long = lines-length g m x _ (run_is (goal.at.returns c).After-run_length-size g) in
+    let fit : length lines ≤ length c.args.room.now = omega (arith, long) in
     record {
       lines = lines;
       right = lines_right g m x;
-      told = told-whole lines c.args.room.now _ (lines-length g m x _ (run_is (goal.at.returns c).After-run_length-size g)) (omega (arith, c.if-room-size.false)) _
+      told = told-whole lines c.args.room.now _ long (omega arith) _
           (c.write_run.ensures (writable_of g m x c.args.room.now fit) (wrote_none g m x c.args.room.now fit _ _ c.put_summary-at.ensures));
     }

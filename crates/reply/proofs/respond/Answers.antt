@@ -2,7 +2,7 @@
 use mathlib.Core.Path.{◌≡◌, ap, ◌∙◌}
 use lib.ListN.{length}
 use Rattle.lines.specs.Line.{zeros}
-use Rattle.ask.specs.Ask.{Asked, question_of}
+use Rattle.ask.specs.Ask.{Asked}
 use Rattle.reply.proofs.Digits.{ready_sized}
 use Rattle.reply.proofs.Ends.{ready_of, clear_of, start_state, rest, ended_of}
 use Rattle.reply.proofs.respond.Goals as goal
@@ -10,11 +10,6 @@ use Rattle.reply.proofs.respond.Goals.{Start}
 
 abbrev asked : Start → Asked
 asked s = record { uid = s.args.uid; gid = s.args.gid; start = s.args.start.now; target = s.args.target.now; kind = s.args.kind }
-
-pub start_number-from-requires : goal.start_number-from-requires
-start_number-from-requires c =
-    let a = asked (goal.at.start_number-from-requires c).Start in
-    (question_of a, ready_of a c.requires.held (c.fill.ensures _ _ c.requires.held) c.sizes-z.ensures)
 
 pub search-w-requires : goal.search-w-requires
 search-w-requires c =

@@ -1,11 +1,8 @@
 use borrow.Author.Rules.{rules}
-use mathlib.Core.Path.{◌∙◌, refl, sym}
+use mathlib.Core.Path.{◌∙◌, sym}
 use native.Mathlib.Omega.{arith}
 use Rattle.rows.proofs.Laws.{begins-same, begins_other, begins-end}
 use Rattle.rows.proofs.begins_with.Goals as goal
-
-pub loop-i-init : goal.loop-i-init
-loop-i-init c = (search rules, refl)
 
 pub returns-then-key-i : goal.returns-then-key-i
 returns-then-key-i c =

@@ -1,14 +1,8 @@
-use mathlib.Core.Path.{◌∙◌, refl, sym}
+use mathlib.Core.Path.{◌∙◌, sym}
 use mathlib.Core.Bool.{true, false}
 use native.Mathlib.Omega.{arith}
 use Rattle.rows.proofs.Laws.{row_room, rows_more, rows_end}
 use Rattle.rows.proofs.has_row.Goals as goal
-
-pub loop-left-init : goal.loop-left-init
-loop-left-init c = (omega arith, refl)
-
-pub overflow_add-end : goal.overflow_add-end
-overflow_add-end c = omega (arith, row_room c.args.width c.loop-left.left c.loop-left-test.true)
 
 pub returns-then-begins_with : goal.returns-then-begins_with
 returns-then-begins_with c =

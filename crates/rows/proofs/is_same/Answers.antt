@@ -21,8 +21,3 @@ loop-i-preserved c =
     let a = c.args in
     let next : l.i - 1 + 1 ≡ l.i = omega arith in
     (omega arith, begins-same a.key.now a.row.now (l.i - 1) (omega arith) (omega arith) (sym c.if-row-i.false) ∙ rw next l.invariant.1)
-
-pub returns : goal.returns
-returns c =
-    let none : c.loop-i.i ≡ 0 = omega arith in
-    sym (rw none at c.loop-i.invariant.1)

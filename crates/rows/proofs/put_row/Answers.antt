@@ -1,16 +1,12 @@
 use borrow.Author.Rules.{rules}
 use mathlib.Core.List.{List}
-use mathlib.Core.Path.{◌∙◌, refl, ap}
+use mathlib.Core.Path.{◌∙◌, ap}
 use Prim.Native.Nat.{ℕ, ◌+◌}
-use native.Mathlib.Nat.{le_antisymm}
 use native.Mathlib.Omega.{arith}
 use native.Mathlib.Numerals.{add-one}
-use lib.Seq.{paste, paste-zero, paste-suc}
+use lib.Seq.{paste-suc}
 use lib.ListN.{get_or, set, length-set}
 use Rattle.rows.proofs.put_row.Goals as goal
-
-pub loop-i-init : goal.loop-i-init
-loop-i-init c = (search rules, paste-zero _ c.args.at c.args.row.now, refl)
 
 pub loop-i-preserved : goal.loop-i-preserved
 loop-i-preserved c =
@@ -20,8 +16,3 @@ loop-i-preserved c =
           ∙ rw add-one (paste-suc a.table.now a.at a.row.now c.loop-i.i 0 (omega arith) c.loop-i-test.true),
       simp length-set c.loop-i.invariant.2,
     )
-
-pub returns : goal.returns
-returns c =
-    let a = c.args in
-    c.loop-i.invariant.1 ∙ ap (paste a.table.now a.at a.row.now) (le_antisymm c.loop-i.invariant.0 c.loop-i-test.false)

@@ -2,7 +2,6 @@
 use mathlib.Core.Path.{sym, ◌∙◌}
 use mathlib.Core.Bool.{false≢true}
 use native.Mathlib.Omega.{arith}
-use borrow.Author.Tests.{not-true, not-false}
 use Rattle.numbered.specs.Number.{Celled}
 use Rattle.numbered.proofs.Radix.{digits_celled}
 use Rattle.numbered.proofs.Members.{sized}
@@ -11,13 +10,10 @@ use Rattle.shown.proofs.seen_at.Goals as goal
 use Rattle.shown.proofs.seen_at.Goals.{After-of-d}
 
 low : (c : After-of-d) → Celled c.of-d.result
-low c = rw c.of-d.ensures (digits_celled (c.is_sized.ensures.0 (not-false _ c.if-not-is_sized.false-raw)) c.args.n)
+low c = rw c.of-d.ensures (digits_celled (c.is_sized.ensures.0 c.if-not-is_sized.false) c.args.n)
 
 pub returns-then-not-is_sized : goal.returns-then-not-is_sized
-returns-then-not-is_sized c P q α good tabled inside ez en = absurd (false≢true (sym (not-true _ c.if-not-is_sized.true-raw) ∙ c.is_sized.ensures.1 (rw ez (sized P good))))
-
-pub of-d-requires : goal.of-d-requires
-of-d-requires c = c.is_sized.ensures.0 (not-false _ c.if-not-is_sized.false-raw)
+returns-then-not-is_sized c P q α good tabled inside ez en = absurd (false≢true (sym c.if-not-is_sized.true ∙ c.is_sized.ensures.1 (rw ez (sized P good))))
 
 pub overflow_add-d : goal.overflow_add-d
 overflow_add-d c = omega (arith, low (goal.at.overflow_add-d c).After-of-d)

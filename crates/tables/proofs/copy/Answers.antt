@@ -1,10 +1,10 @@
-use mathlib.Core.Path.{◌≡◌, refl, ◌∙◌}
-use mathlib.Core.List.{List, [], ◌∷◌, ◌++◌, append_assoc, append-nil}
-use Prim.Native.Nat.{ℕ, suc, ◌+◌, ◌≤◌, ◌<◌}
+use mathlib.Core.Path.{◌≡◌}
+use mathlib.Core.List.{List, [], ◌∷◌, ◌++◌, append_assoc}
+use Prim.Native.Nat.{ℕ, suc, ◌+◌, ◌<◌}
 use native.Mathlib.Numerals.{add-one}
 use native.Mathlib.Omega.{arith}
-use lib.ListN.{length, get_or, take, drop, set, length-set, drop_of_length-le}
-use lib.Seq.{drop-cons, take-suc, take_all, set_at, length-take-le}
+use lib.ListN.{length, get_or, take, drop, set, length-set}
+use lib.Seq.{drop-cons, take-suc, set_at, length-take-le}
 use Rattle.tables.proofs.copy.Goals as goal
 
 -- One byte more.
@@ -19,9 +19,6 @@ copied from old i h e =
       append_assoc (take i from) (get_or from i 0 ∷ []) (drop (suc i) old),
     )
 
-pub loop-i-init : goal.loop-i-init
-loop-i-init c = (omega arith, refl, c.requires, refl)
-
 pub loop-i-preserved : goal.loop-i-preserved
 loop-i-preserved c = (
   omega arith,
@@ -29,11 +26,3 @@ loop-i-preserved c = (
   rw length-set c.loop-i.invariant.2,
   rw c.loop-i.invariant.3 (copied c.args.from.now c.args.part.now c.loop-i.i (omega arith) c.requires),
 )
-
-pub returns : goal.returns
-returns c =
-    let from = c.args.from.now in
-    let old = c.args.part.now in
-    let i = c.loop-i.i in
-    let past : length old ≤ i = omega (arith, c.requires) in
-    c.loop-i.invariant.3 ∙ rw (take_all i from (omega arith), drop_of_length-le old past) (append-nil from)

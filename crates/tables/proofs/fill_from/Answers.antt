@@ -12,24 +12,6 @@ use Rattle.tables.proofs.fill_from.Goals as goal
 pub returns-then-count-gt64 : goal.returns-then-count-gt64
 returns-then-count-gt64 c P rest L listed = absurd (omega (arith, c.if-count-gt64.true, c.subject_count-count.ensures, subject-count L, few L))
 
-pub overflow_add-subjects : goal.overflow_add-subjects
-overflow_add-subjects c = omega arith
-
-pub slice_bounds-subjects-count : goal.slice_bounds-subjects-count
-slice_bounds-subjects-count c = omega arith
-
-pub slice_bounds-copy-count : goal.slice_bounds-copy-count
-slice_bounds-copy-count c = omega arith
-
-pub slice_bounds-fill_stands-count : goal.slice_bounds-fill_stands-count
-slice_bounds-fill_stands-count c = omega arith
-
-pub slice_bounds-fill_tests-count : goal.slice_bounds-fill_tests-count
-slice_bounds-fill_tests-count c = omega arith
-
-pub slice_bounds-fill_rows-count : goal.slice_bounds-fill_rows-count
-slice_bounds-fill_rows-count c = omega arith
-
 pub returns : goal.returns
 returns c P rest L listed =
     let args = c.args in

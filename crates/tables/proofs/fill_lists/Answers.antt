@@ -4,18 +4,6 @@ use Rattle.tables.proofs.Parts.{parts_none, parts_more}
 use Rattle.tables.proofs.Whole.{lists_of}
 use Rattle.tables.proofs.fill_lists.Goals as goal
 
-pub slice_bounds-fill_choices-count : goal.slice_bounds-fill_choices-count
-slice_bounds-fill_choices-count c = omega arith
-
-pub slice_bounds-fill_choices-count-2 : goal.slice_bounds-fill_choices-count-2
-slice_bounds-fill_choices-count-2 c = omega arith
-
-pub slice_bounds-fill_choices-count-3 : goal.slice_bounds-fill_choices-count-3
-slice_bounds-fill_choices-count-3 c = omega arith
-
-pub slice_bounds-fill_subjects-count : goal.slice_bounds-fill_subjects-count
-slice_bounds-fill_subjects-count c = omega arith
-
 pub returns : goal.returns
 returns c P rest L =
     let a = c.fill_choices in

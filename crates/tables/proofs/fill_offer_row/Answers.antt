@@ -1,29 +1,11 @@
-use mathlib.Core.Path.{◌≡◌, refl, ◌∙◌}
+use mathlib.Core.Path.{◌≡◌, ◌∙◌}
 use Prim.Native.Nat.{◌+◌}
-use native.Mathlib.Nat.{add-zero}
 use native.Mathlib.Omega.{arith}
 use lib.ListN.{length}
 use Rattle.tables.specs.Regions.{Offers}
 use Rattle.tables.proofs.Cells.{region_more, region_past, holds_flag}
-use Rattle.tables.proofs.Offers.{few-cells, offers_at, offers_past}
+use Rattle.tables.proofs.Offers.{offers_at, offers_past}
 use Rattle.tables.proofs.fill_offer_row.Goals as goal
-
-pub loop-j-init : goal.loop-j-init
-loop-j-init c = (omega arith, refl, λ before. rw (add-zero c.args.at) before)
-
-pub bounds-choices-j : goal.bounds-choices-j
-bounds-choices-j c = omega arith
-
-pub offered-test-requires : goal.offered-test-requires
-offered-test-requires c = c.requires.named
-
-pub overflow_add-at : goal.overflow_add-at
-overflow_add-at c =
-    let few = few-cells c.args.row (length c.args.choices.now) c.ranges.row.fits c.requires.at_value.1 in
-    record { fits = omega (arith, c.loop-j.invariant, c.loop-j-test.true, c.requires.at_value, few) }
-
-pub loop-j-smaller : goal.loop-j-smaller
-loop-j-smaller c = omega arith
 
 pub loop-j-preserved : goal.loop-j-preserved
 loop-j-preserved c =

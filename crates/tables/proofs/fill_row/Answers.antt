@@ -4,27 +4,6 @@ use native.Mathlib.Omega.{arith}
 use Rattle.tables.proofs.Rows.{row-filled}
 use Rattle.tables.proofs.fill_row.Goals as goal
 
-pub overflow_mul-at : goal.overflow_mul-at
-overflow_mul-at c = omega arith
-
-pub overflow_add-at : goal.overflow_add-at
-overflow_add-at c = omega arith
-
-pub slice_bounds-copy-count : goal.slice_bounds-copy-count
-slice_bounds-copy-count c = omega arith
-
-pub overflow_mul-behind : goal.overflow_mul-behind
-overflow_mul-behind c = omega arith
-
-pub overflow_add-behind : goal.overflow_add-behind
-overflow_add-behind c = omega arith
-
-pub overflow_add-behind-2 : goal.overflow_add-behind-2
-overflow_add-behind-2 c = omega arith
-
-pub slice_bounds-copy-count-2 : goal.slice_bounds-copy-count-2
-slice_bounds-copy-count-2 c = omega arith
-
 pub returns : goal.returns
 returns c =
     let args = c.args in

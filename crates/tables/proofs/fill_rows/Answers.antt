@@ -1,11 +1,7 @@
-use native.Mathlib.Nat.{not-suc-le-zero}
 use native.Mathlib.Omega.{arith}
 use Rattle.lookup.specs.Index.{entry_index, object_index}
 use Rattle.tables.proofs.Rows.{rows_more}
 use Rattle.tables.proofs.fill_rows.Goals as goal
-
-pub loop-k-init : goal.loop-k-init
-loop-k-init c = (omega arith, omega arith, omega arith, λ P rest L own k h. absurd (not-suc-le-zero h))
 
 pub fill_row-requires : goal.fill_row-requires
 unfolding entry_index object_index
@@ -21,6 +17,3 @@ loop-k-preserved c =
       omega (arith, row.auto.part),
       rows_more args.store.now args.subjects.now loop.k loop.part _ (omega arith) (omega arith) loop.invariant.3 row.ensures,
     )
-
-pub returns : goal.returns
-returns c P rest L own k h = c.loop-k.invariant.3 P rest L own k (omega arith)

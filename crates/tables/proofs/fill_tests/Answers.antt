@@ -1,45 +1,9 @@
 -- `fill_tests` meets its contract: the five parts come back one behind the other.
-use mathlib.Core.Path.{refl}
-use mathlib.Core.Logic.{inl, inr}
 use native.Mathlib.Omega.{arith}
 use borrow.Rule.Slice.PartMut.{mid_of, put_mid}
-use Rattle.rows.proofs.Parts.{part_length}
 use Rattle.tables.proofs.Parts.{parts_none, parts_more}
 use Rattle.tables.proofs.Whole.{tests_of}
 use Rattle.tables.proofs.fill_tests.Goals as goal
-
-pub slice_bounds-fill_grants-count : goal.slice_bounds-fill_grants-count
-slice_bounds-fill_grants-count c = omega arith
-
-pub slice_bounds-fill_offers-count : goal.slice_bounds-fill_offers-count
-slice_bounds-fill_offers-count c = omega arith
-
-pub slice_bounds-fill_offers-count-2 : goal.slice_bounds-fill_offers-count-2
-slice_bounds-fill_offers-count-2 c = omega arith
-
-pub fill_offers-requires : goal.fill_offers-requires
-fill_offers-requires c = record { named = λ other. absurd (other refl); choices_len_bound = omega (arith, part_length 0 8 c.args.lists.now (omega (arith, c.requires.lists_len))) }
-
-pub slice_bounds-put-count : goal.slice_bounds-put-count
-slice_bounds-put-count c = omega arith
-
-pub slice_bounds-fill_offers-count-3 : goal.slice_bounds-fill_offers-count-3
-slice_bounds-fill_offers-count-3 c = omega arith
-
-pub slice_bounds-fill_offers-count-4 : goal.slice_bounds-fill_offers-count-4
-slice_bounds-fill_offers-count-4 c = omega arith
-
-pub fill_offers-requires-2 : goal.fill_offers-requires-2
-fill_offers-requires-2 c = record { named = λ other. inr refl; choices_len_bound = omega (arith, part_length 24 8 c.args.lists.now (omega (arith, c.requires.lists_len))) }
-
-pub slice_bounds-fill_offers-count-5 : goal.slice_bounds-fill_offers-count-5
-slice_bounds-fill_offers-count-5 c = omega arith
-
-pub slice_bounds-fill_offers-count-6 : goal.slice_bounds-fill_offers-count-6
-slice_bounds-fill_offers-count-6 c = omega arith
-
-pub fill_offers-requires-3 : goal.fill_offers-requires-3
-fill_offers-requires-3 c = record { named = λ other. inl refl; choices_len_bound = omega (arith, part_length 8 16 c.args.lists.now (omega (arith, c.requires.lists_len))) }
 
 pub returns : goal.returns
 returns c P rest L listed =

@@ -3,11 +3,8 @@ use mathlib.Core.Path.{ap, ◌∙◌}
 use Rattle.gran.specs.Role.{allows}
 use Rattle.lookup.specs.Lookup.{entry_at}
 use Rattle.ids.specs.Ids.{allowed_of}
-use Rattle.tables.proofs.Reaches.{few_roles, own_id}
+use Rattle.tables.proofs.Reaches.{own_id}
 use Rattle.tables.proofs.reach.Goals as goal
-
-pub returns-then-choice-eq-NONE : goal.returns-then-choice-eq-NONE
-returns-then-choice-eq-NONE c P rest L h choice = rw c.if-choice-eq-NONE.true (c.has_free.ensures P rest L h (few_roles L.good c.args.kind c.requires))
 
 pub returns : goal.returns
 returns c P rest L h choice =

@@ -43,9 +43,6 @@ after-groups c so =
     (inside_groups-set a.store.now a.t.now (rw c.of-d.ensures (digits_among c.requires.0.sized c.args.n c.requires.1.0)) entry-at.result)
     c.set_groups-w3.ensures
 
-pub of-d-requires : goal.of-d-requires
-of-d-requires c = c.requires.0.sized
-
 pub role_at-role-requires : goal.role_at-role-requires
 role_at-role-requires c = among_celled c.requires.0.sized (below (goal.at.role_at-role-requires c).After-of-d)
 

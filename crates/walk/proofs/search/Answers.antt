@@ -2,15 +2,14 @@ use mathlib.Core.Path.{◌≡◌, refl, sym, ap, ◌∙◌}
 use Prim.Native.Nat.{ℕ, suc, ◌+◌, ◌≤◌, ◌<◌, ◌-◌}
 use native.Mathlib.Omega.{arith}
 use borrow.Author.Tests.{eq-eqb, ne_eqb}
-use lib.ListN.{length}
 use Rattle.numbered.specs.Candidates.{goal_at, candidates}
-use Rattle.walk.specs.Walk.{Walk, queued, empty, sweep, search}
+use Rattle.walk.specs.Walk.{Walk, queued, sweep, search}
 use Rattle.walk.specs.Needed.{walk_of}
-use Rattle.walk.proofs.Walks.{visit-length, sweep_met, sweep_more, sweep-done}
+use Rattle.walk.proofs.Walks.{sweep_met, sweep_more, sweep-done}
 use Rattle.walk.proofs.Keeping.{kept-empty, kept_count, kept_most, kept-visit, kept-visits}
 use Rattle.walk.proofs.Full.{sweep_full}
 use Rattle.walk.proofs.Again.{none-set}
-use Rattle.walk.proofs.Targets.{inside-candidates, sweep-length}
+use Rattle.walk.proofs.Targets.{inside-candidates}
 use Rattle.walk.proofs.search.Goals as goal
 use Rattle.walk.proofs.search.Goals.{At-loop-p}
 
@@ -27,22 +26,6 @@ whole : (a : At-loop-p) → sweep (goal_at a.args.t.now a.args.z) (candidates a.
 unfolding search
 whole a over =
     sym over ∙ a.loop-p.invariant.1.1.0 ∙ ap (sweep (goal_at a.args.t.now a.args.z) (candidates a.args.store.now a.args.t.now a.args.z) 8192 0) a.visit-w.ensures
-
--- The area is as long as it was.
-same : (a : At-loop-p) → length a.loop-p.area ≡ length a.args.area.now
-same a =
-    let aim = goal_at a.args.t.now a.args.z in
-    let steps = candidates a.args.store.now a.args.t.now a.args.z in
-    let first = a.visit-w in
-    sym (sweep-length aim steps (8192 - a.loop-p.p) a.loop-p.p (memory a)) ∙ ap (λ (v : Walk). length v.area) a.loop-p.invariant.1.1.0
-    ∙ sweep-length aim steps 8192 0 (walk_of first.new.area first.result) ∙ ap (λ (v : Walk). length v.area) first.ensures
-    ∙ visit-length aim 0 0 a.args.start (empty a.args.area.now)
-
-pub all_states-all-requires : goal.all_states-all-requires
-all_states-all-requires c = c.requires.1.0
-
-pub none_opened-opened-requires : goal.none_opened-opened-requires
-none_opened-opened-requires c = tt
 
 pub visit-w-requires : goal.visit-w-requires
 visit-w-requires c =
@@ -67,24 +50,8 @@ returns-then-w-all c =
     whole (goal.at.returns-then-w-all c).At-loop-p (sweep_full s.args.z s.requires.1.0.few (goal_at s.args.t.now s.args.z) (memory (goal.at.returns-then-w-all c).At-loop-p) c.loop-p.invariant.0 all
     (candidates s.args.store.now s.args.t.now s.args.z) (inside-candidates s.args.store.now s.args.t.now s.requires.1.0) (8192 - c.loop-p.p) c.loop-p.p)
 
-pub overflow_mul-place : goal.overflow_mul-place
-overflow_mul-place c = omega (arith, bound (goal.at.overflow_mul-place c).At-loop-p)
-
-pub offset_bounds-area-place : goal.offset_bounds-area-place
-offset_bounds-area-place c = omega (arith, bound (goal.at.offset_bounds-area-place c).At-loop-p)
-
 pub bounds-area-place : goal.bounds-area-place
 bounds-area-place c = omega (arith, kept_most (goal.at.bounds-area-place c).At-loop-p.args.z (goal.at.bounds-area-place c).At-loop-p.requires.1.0.few c.loop-p.invariant.0, c.loop-p.invariant.0.long)
-
-pub expand-w-requires : goal.expand-w-requires
-expand-w-requires c =
-    (record { kept = c.loop-p.invariant.0; place = omega (arith, bound (goal.at.expand-w-requires c).At-loop-p); sized = (goal.at.expand-w-requires c).At-loop-p.requires.1.0 }, (c.loop-p.invariant.0.states c.loop-p.p (omega arith), c.loop-p.invariant.1.1.1))
-
-pub overflow_add-p : goal.overflow_add-p
-overflow_add-p c = omega (arith, bound (goal.at.overflow_add-p c).At-loop-p)
-
-pub loop-p-smaller : goal.loop-p-smaller
-loop-p-smaller c = omega (arith, bound (goal.at.loop-p-smaller c).At-loop-p)
 
 pub loop-p-preserved : goal.loop-p-preserved
 loop-p-preserved c =

@@ -1,19 +1,9 @@
-use mathlib.Core.Path.{◌≡◌, sym, ap, ◌∙◌}
+use mathlib.Core.Path.{◌≡◌, ap, ◌∙◌}
 use Prim.Native.Nat.{ℕ, ◌+◌, ◌%◌}
-use native.Mathlib.Nat.{zero-add}
 use native.Mathlib.Omega.{arith}
 use Rattle.judge.specs.Noted.{weighed, digest_of}
 use Rattle.judge.proofs.Noting.{weighed-next, weighed-end, product_most}
 use Rattle.judge.proofs.noted.digest.Goals as goal
-
-pub loop-i-init : goal.loop-i-init
-loop-i-init c = (omega arith, c.requires, omega arith, sym (zero-add _))
-
-pub overflow_mul-sum : goal.overflow_mul-sum
-overflow_mul-sum c = omega (arith, product_most (c.loop-i.i + 1) c.wide.result (omega arith) (omega (arith, c.wide.ensures.1)))
-
-pub overflow_add-sum-in-loop-i : goal.overflow_add-sum-in-loop-i
-overflow_add-sum-in-loop-i c = omega (arith, product_most (c.loop-i.i + 1) c.wide.result (omega arith) (omega (arith, c.wide.ensures.1)))
 
 pub loop-i-preserved : goal.loop-i-preserved
 loop-i-preserved c =

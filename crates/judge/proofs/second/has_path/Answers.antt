@@ -6,9 +6,6 @@ use native.Mathlib.Omega.{arith}
 use mathlib.Core.Path.{◌∙◌, refl, sym}
 use Rattle.judge.proofs.second.has_path.Goals as goal
 
-pub loop-i-init : goal.loop-i-init
-loop-i-init c = (omega arith, omega arith, omega arith, λ P rest t b h e. refl)
-
 pub returns-then-is_path : goal.returns-then-is_path
 returns-then-is_path c = λ P rest sound h.
     let a = c.args in

@@ -5,6 +5,3 @@ use Rattle.leveecrumb.proofs.c.answer_any.Goals as goal
 
 pub respond-requires : goal.respond-requires
 respond-requires c = record { held = c.requires; blank = blank_of _ 24576 c.fresh-numbers.ensures (omega (arith, held_few c.requires)) }
-
-pub returns : goal.returns
-returns c = c.respond.ensures.answers

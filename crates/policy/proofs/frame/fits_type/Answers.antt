@@ -1,13 +1,10 @@
-use mathlib.Core.Path.{◌∙◌, refl, sym, ap}
+use mathlib.Core.Path.{◌∙◌, sym, ap}
 use native.Mathlib.Omega.{arith}
 use borrow.Author.Tests.{le-leb, lt-leb}
 use lib.Dec.{leb}
 use Rattle.policy.specs.Frames.{frame_type, frame_table}
 use Rattle.policy.proofs.Table.{other_type, this_type, no_type}
 use Rattle.policy.proofs.frame.fits_type.Goals as goal
-
-pub loop-k-init : goal.loop-k-init
-loop-k-init c = (omega arith, refl)
 
 pub returns-then-size-wide : goal.returns-then-size-wide
 returns-then-size-wide c =

@@ -12,9 +12,6 @@ pub loop-k-init : goal.loop-k-init
 unfolding length_to
 loop-k-init c = (omega arith, λ g σ. refl)
 
-pub step_length-size-requires : goal.step_length-size-requires
-step_length-size-requires c = (c.requires, omega arith)
-
 pub overflow_add-size : goal.overflow_add-size
 overflow_add-size c =
     let g = c.requires in

@@ -11,23 +11,8 @@ here : (s : Start)
     → Marked s.requires.0.policy s.args.area.now (state_after s.requires.0.from s.requires.0.acts s.args.k) (act_of s.requires.0.acts s.args.k) (get_or s.args.out.now (s.args.n - 1 - s.args.k) 0)
 here s = s.requires.0.traced.marked s.args.k (s.args.n - 1 - s.args.k) (omega (arith, s.requires.1))
 
-pub overflow_mul-to : goal.overflow_mul-to
-overflow_mul-to c = omega (arith, (here (goal.at.overflow_mul-to c).Start).place)
-
-pub offset_bounds-area-place : goal.offset_bounds-area-place
-offset_bounds-area-place c = omega (arith, (here (goal.at.offset_bounds-area-place c).Start).place)
-
 pub bounds-area-place : goal.bounds-area-place
 bounds-area-place c = omega (arith, (here (goal.at.bounds-area-place c).Start).within)
-
-pub overflow_mul-to-2 : goal.overflow_mul-to-2
-overflow_mul-to-2 c = omega (arith, (here (goal.at.overflow_mul-to-2 c).Start).small)
-
-pub overflow_add-to : goal.overflow_add-to
-overflow_add-to c = omega (arith, (here (goal.at.overflow_add-to c).Start).small)
-
-pub offset_bounds-area-to : goal.offset_bounds-area-to
-offset_bounds-area-to c = omega (arith, (here (goal.at.offset_bounds-area-to c).Start).small)
 
 pub bounds-area-to : goal.bounds-area-to
 bounds-area-to c = omega (arith, (here (goal.at.bounds-area-to c).Start).room)

@@ -26,23 +26,8 @@ shown c g x =
     let m = g.traced.marked c.args.k (c.args.n - c.args.k - 1) (last c.args.k c.args.n c.requires.k_lt_n) in
     c.step_shown-step.ensures (policy_in c.args.store.now) _ g.question g.begin (state_after g.from g.acts c.args.k) (act_of g.acts c.args.k) g.ready.held x.going m.may x.from m.state m.label
 
-pub overflow_mul-to : goal.overflow_mul-to
-overflow_mul-to c = omega (arith, (here (goal.at.overflow_mul-to c).Start).place)
-
-pub offset_bounds-area-place : goal.offset_bounds-area-place
-offset_bounds-area-place c = omega (arith, (here (goal.at.offset_bounds-area-place c).Start).place)
-
 pub bounds-area-place : goal.bounds-area-place
 bounds-area-place c = omega (arith, (here (goal.at.bounds-area-place c).Start).within)
-
-pub overflow_mul-label : goal.overflow_mul-label
-overflow_mul-label c = omega (arith, (here (goal.at.overflow_mul-label c).Start).small)
-
-pub overflow_add-label : goal.overflow_add-label
-overflow_add-label c = omega (arith, (here (goal.at.overflow_add-label c).Start).small)
-
-pub offset_bounds-area-to : goal.offset_bounds-area-to
-offset_bounds-area-to c = omega (arith, (here (goal.at.offset_bounds-area-to c).Start).small)
 
 pub bounds-area-to : goal.bounds-area-to
 bounds-area-to c = omega (arith, (here (goal.at.bounds-area-to c).Start).room)

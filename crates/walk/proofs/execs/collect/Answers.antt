@@ -1,5 +1,5 @@
 use mathlib.Core.List.{[]}
-use mathlib.Core.Path.{◌≡◌, refl, sym}
+use mathlib.Core.Path.{◌≡◌, sym}
 use mathlib.Core.Bool.{Bool}
 use Prim.Native.Nat.{ℕ, ◌≤◌}
 use native.Mathlib.Omega.{arith}
@@ -20,23 +20,8 @@ few c =
     let l = c.loop-k in
     (omega (arith, collected_few [] (test c) l.invariant.0), collected-length [] (test c) l.invariant.0 (omega (arith, l.invariant.1, c.requires.1)))
 
-pub loop-k-init : goal.loop-k-init
-loop-k-init c = (record { size = refl; written = refl }, omega arith)
-
-pub in_image-hit-requires : goal.in_image-hit-requires
-in_image-hit-requires c = omega arith
-
-pub overflow_cast-k : goal.overflow_cast-k
-overflow_cast-k c = omega arith
-
 pub keep-n-requires : goal.keep-n-requires
 keep-n-requires c = let f = few (goal.at.keep-n-requires c).At-loop-k in (omega (arith, f), omega (arith, f))
-
-pub overflow_add-k : goal.overflow_add-k
-overflow_add-k c = omega arith
-
-pub loop-k-smaller : goal.loop-k-smaller
-loop-k-smaller c = omega arith
 
 pub loop-k-preserved : goal.loop-k-preserved
 unfolding test

@@ -12,7 +12,7 @@ use Rattle.walk.specs.Walk.{visits}
 use Rattle.walk.specs.Needed.{walk_of}
 use Rattle.walk.specs.Image.{image_of}
 use Rattle.numbered.proofs.Radix.{number_of_lt}
-use Rattle.walk.proofs.Loops.{begins, turns, ends}
+use Rattle.walk.proofs.Loops.{turns, ends}
 use Rattle.walk.proofs.Targets.{among_subject}
 use Rattle.walk.proofs.Images.{listed_lt, image-steps}
 use Rattle.walk.proofs.execs.exec_subjects.Goals as goal
@@ -35,30 +35,11 @@ target c =
     let lt : at < c.args.z.subjects = listed_lt [] (in_image c.args.t.now x.from x.place x.path) c.args.z.subjects c.requires.1.1 tt c.loop-k.k c.loop-k-test.true in
     rw (row c.args.z c.args.d c.number-base.result c.number-base.ensures at) (number_of_lt (among_subject c.requires.1.0 lt))
 
-pub number-base-requires : goal.number-base-requires
-number-base-requires c =
-    (c.requires.0.sized, among_subject c.requires.1.0 c.requires.0.sized.subjects.0)
-
-pub overflow_cast-c : goal.overflow_cast-c
-overflow_cast-c c = omega arith
-
-pub loop-k-init : goal.loop-k-init
-loop-k-init c = begins c.requires.0
-
-pub bounds-image-k : goal.bounds-image-k
-bounds-image-k c = omega arith
-
 pub overflow_add-n : goal.overflow_add-n
 overflow_add-n c = omega (arith, target (goal.at.overflow_add-n c).In-loop-k, c.requires.0.sized.few)
 
 pub visit-done-requires : goal.visit-done-requires
 visit-done-requires c = (c.loop-k.invariant.going, target (goal.at.visit-done-requires c).In-loop-k)
-
-pub overflow_add-k : goal.overflow_add-k
-overflow_add-k c = omega arith
-
-pub loop-k-smaller : goal.loop-k-smaller
-loop-k-smaller c = omega arith
 
 pub loop-k-preserved : goal.loop-k-preserved
 unfolding visits

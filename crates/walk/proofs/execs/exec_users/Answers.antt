@@ -2,7 +2,6 @@ use borrow.Author.Tests.{ltb-true}
 use mathlib.Core.Path.{sym}
 use mathlib.Core.Bool.{So, ◌&&◌, and-eq-true_iff}
 use Prim.Native.Nat.{◌≤◌, ◌<◌}
-use native.Mathlib.Omega.{arith}
 use lib.Dec.{ltb}
 use lib.ListN.{length, get_or}
 use lib.Seq.{length-take-le}
@@ -10,7 +9,7 @@ use Rattle.tables.specs.Tables.{is_set, user_reach_cell}
 use Rattle.numbered.specs.Candidates.{goal_at}
 use Rattle.walk.specs.Needed.{walk_of, ObjectDone}
 use Rattle.walk.proofs.Walks.{visits_as}
-use Rattle.walk.proofs.Loops.{begins, turns, ends}
+use Rattle.walk.proofs.Loops.{turns, ends}
 use Rattle.walk.proofs.Targets.{among_user, inside_groups}
 use Rattle.walk.proofs.Images.{to_user, user-steps, below_front, groups_below, groups_fit, users_below, user_allowed}
 use Rattle.walk.proofs.Again.{object_on, groups_enough}
@@ -29,12 +28,6 @@ fits c =
     let a = c.args in
     groups_fit a.t.now a.z a.d a.x.from (a.again && ltb 0 c.loop-j.j) c.requires.1.1.1.0 c.group_count-n.ensures
 
-pub loop-j-init : goal.loop-j-init
-loop-j-init c = let h = c.requires in (begins h.0, h.1.1.1.1.1)
-
-pub bounds-users-j : goal.bounds-users-j
-bounds-users-j c = omega arith
-
 pub slice_bounds-exec_groups-end : goal.slice_bounds-exec_groups-end
 slice_bounds-exec_groups-end c = sym (length-take-le c.group_count-n.result c.args.groups.now (fits (goal.at.slice_bounds-exec_groups-end c).After-group_count-n))
 
@@ -50,12 +43,6 @@ exec_groups-done-requires c =
         ),
       ),
     )
-
-pub overflow_add-j : goal.overflow_add-j
-overflow_add-j c = omega arith
-
-pub loop-j-smaller : goal.loop-j-smaller
-loop-j-smaller c = omega arith
 
 pub loop-j-preserved : goal.loop-j-preserved
 loop-j-preserved c =

@@ -1,11 +1,11 @@
 use mathlib.Core.List.{[], ◌++◌}
-use mathlib.Core.Path.{◌≡◌, refl, sym, ap, ◌∙◌}
+use mathlib.Core.Path.{◌≡◌, sym, ap, ◌∙◌}
 use mathlib.Core.Bool.{Bool}
 use mathlib.Core.List.{List, ◌∷◌}
 use Prim.Native.Nat.{ℕ, ◌+◌, ◌≤◌}
 use native.Mathlib.Omega.{arith}
 use lib.ListN.{length, set, length-set}
-use lib.Seq.{set_split, drop-set-lt}
+use lib.Seq.{drop-set-lt}
 use Rattle.walk.specs.Walk.{Written}
 use Rattle.walk.specs.Image.{is_another, followers_of}
 use Rattle.walk.proofs.Images.{collected_few, collect_turn, collect_ends, collected-length}
@@ -26,36 +26,8 @@ few c =
     let long : length (set c.args.out.now 0 c.args.kept) ≡ length c.args.out.now = length-set c.args.out.now 0 c.args.kept in
     (omega (arith, collected_few (first c) (test c) l.invariant.0), collected-length (first c) (test c) l.invariant.0 (omega (arith, l.invariant.1, c.requires.1.1.1)) ∙ long)
 
-pub overflow_cast-out : goal.overflow_cast-out
-overflow_cast-out c = omega arith
-
-pub bounds-out-0 : goal.bounds-out-0
-bounds-out-0 c = omega arith
-
-pub loop-j-init : goal.loop-j-init
-loop-j-init c =
-    let a = c.args in (
-      record {
-        size = refl;
-        written = set_split a.out.now 0 a.kept (omega arith) ∙ ap (◌∷◌ a.kept) (sym (drop-set-lt 1 a.out.now 0 a.kept (omega arith)));
-      },
-      omega arith,
-    )
-
-pub is_another-hit-requires : goal.is_another-hit-requires
-is_another-hit-requires c = omega arith
-
-pub overflow_cast-j : goal.overflow_cast-j
-overflow_cast-j c = omega arith
-
 pub keep-n-requires : goal.keep-n-requires
 keep-n-requires c = let f = few (goal.at.keep-n-requires c).At-loop-j in (omega (arith, f), omega (arith, f))
-
-pub overflow_add-j : goal.overflow_add-j
-overflow_add-j c = omega arith
-
-pub loop-j-smaller : goal.loop-j-smaller
-loop-j-smaller c = omega arith
 
 pub loop-j-preserved : goal.loop-j-preserved
 unfolding test

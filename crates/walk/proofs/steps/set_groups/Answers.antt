@@ -1,5 +1,4 @@
 -- `steps::set_groups` meets its contract: without set_gid nothing is offered, and with it the groups are a row.
-use borrow.Author.Tests.{not-true, not-false}
 use mathlib.Core.Path.{◌∙◌}
 use Prim.Native.Nat.{ℕ}
 use native.Mathlib.Omega.{arith}
@@ -18,7 +17,7 @@ returns-then-not-set_gid c =
     let a = c.args in
     visits-none (goal_at a.t.now a.z) a.p (walk_of a.area.now a.w)
     (groups_none a.store.now a.t.now a.z a.d a.entry
-    (read (λ (m : ℕ). has m SET_GID) c.entry_caps.ensures c.set_gid.ensures (not-true c.set_gid.result c.if-not-set_gid.true-raw)))
+    (read (λ (m : ℕ). has m SET_GID) c.entry_caps.ensures c.set_gid.ensures c.if-not-set_gid.true))
 
 pub offer_row-requires : goal.offer_row-requires
 offer_row-requires c =
@@ -28,10 +27,9 @@ offer_row-requires c =
 pub returns : goal.returns
 unfolding group_step
 returns c =
-    let s = c.before.before.before.before.before.before.before.before.before.before.before in
-    let a = s.args in
+    let a = c.args in
     let is_set = c.set_gid in
     visits_as (goal_at a.t.now a.z) a.p (walk_of a.area.now a.w) c.offer_row.ensures
-    (row-steps (groups_spaced s.requires.0.sized s.requires.1) c.number-base.ensures a.t.now _ 98 (group_reach_cell a.entry) (λ j. omega arith)
+    (row-steps (groups_spaced c.requires.0.sized c.requires.1) c.number-base.ensures a.t.now _ 98 (group_reach_cell a.entry) (λ j. omega arith)
     ∙ groups-some a.store.now a.t.now a.z a.d a.entry
-    (read (λ (m : ℕ). has m SET_GID) c.entry_caps.ensures is_set.ensures (not-false is_set.result c.if-not-set_gid.false-raw)))
+    (read (λ (m : ℕ). has m SET_GID) c.entry_caps.ensures is_set.ensures c.if-not-set_gid.false))

@@ -4,14 +4,8 @@ use Rattle.tables.specs.Tables.{take_cell}
 use Rattle.numbered.specs.Candidates.{goal_at, special_step, special_steps}
 use Rattle.walk.specs.Needed.{walk_of}
 use Rattle.walk.proofs.Walks.{visits_as}
-use Rattle.walk.proofs.Rows.{strides_near, specials_spaced, row_of, row-steps}
+use Rattle.walk.proofs.Rows.{specials_spaced, row_of, row-steps}
 use Rattle.walk.proofs.steps.specials.Goals as goal
-
-pub overflow_mul-stride : goal.overflow_mul-stride
-overflow_mul-stride c = omega (arith, (strides_near c.requires.0.sized).pairs)
-
-pub overflow_mul-stride-2 : goal.overflow_mul-stride-2
-overflow_mul-stride-2 c = omega (arith, (strides_near c.requires.0.sized).special)
 
 pub offer_row-requires : goal.offer_row-requires
 offer_row-requires c =
@@ -21,7 +15,6 @@ offer_row-requires c =
 pub returns : goal.returns
 unfolding special_step special_steps
 returns c =
-    let s = c.before.before.before.before.before.before.before.before.before in
-    let a = s.args in
+    let a = c.args in
     visits_as (goal_at a.t.now a.z) a.p (walk_of a.area.now a.w) c.offer_row.ensures
-    (row-steps (specials_spaced s.requires.0.sized s.requires.1) c.number-base.ensures a.t.now _ 96 (take_cell a.role) (λ j. omega arith))
+    (row-steps (specials_spaced c.requires.0.sized c.requires.1) c.number-base.ensures a.t.now _ 96 (take_cell a.role) (λ j. omega arith))
