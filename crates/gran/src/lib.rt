@@ -258,3 +258,14 @@ impl Process {
         }
     }
 }
+
+// What is asked about a policy: whether the account with these ids, which began in the file `start`, can come to the access of a kind, 0 read or
+// 1 write, to the file `target`.
+#[derive(Clone, Copy)]
+pub struct Asked<'a> {
+    pub uid: u32,
+    pub gid: u32,
+    pub start: &'a [u8],
+    pub target: &'a [u8],
+    pub kind: u8,
+}

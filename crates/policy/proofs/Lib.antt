@@ -9,3 +9,4 @@ pub mod Accepted
 pub mod Moves
 pub mod Room
 pub mod Table
+pub mod Numbers

@@ -1,3 +1,4 @@
+pub mod Refused
 pub mod Frames
 pub mod Load
 pub mod Sound

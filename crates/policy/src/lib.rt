@@ -3,3 +3,4 @@
 #![tactic(auto)]
 
 pub mod frame; // frame.rt: the fields of a frame, and the tests that need no policy
+pub mod refusal; // refusal.rt: why a text or an ask is refused, by number
