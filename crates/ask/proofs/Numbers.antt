@@ -11,8 +11,7 @@ use Rattle.gran.specs.Policy.{Policy}
 use Rattle.policy.specs.Load.{Reading, refused, accepted, reading}
 use Rattle.ask.proofs.Small.{refused_within, value-length}
 use Rattle.ask.proofs.Unique.{lines_unique}
-use Rattle.ask.specs.declared.Answer.TheVariants.{Answered, Short}
-use Rattle.ask.specs.Ask.{Asked, number_of, value_of, early, Lines, Areas, Outcome, answer_with, room_with, Comes, ComesTo, NumberAndValueOf, NumberAndValue}
+use Rattle.ask.specs.Ask.{Answered, Short, Asked, number_of, value_of, early, Lines, Areas, Outcome, answer_with, room_with, Comes, ComesTo, NumberAndValueOf, NumberAndValue}
 
 -- ---- lines and a room
 

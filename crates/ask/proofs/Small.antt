@@ -19,9 +19,7 @@ use Rattle.policy.proofs.Loads.{run-stopped}
 use Rattle.policy.proofs.Accepted.{accepted_good}
 use Rattle.numbered.proofs.Numbers.{abstract_inside}
 use Rattle.ask.proofs.Short.{first_short}
-use Rattle.ask.specs.declared.Answer.{Answer}
-use Rattle.ask.specs.declared.Answer.TheVariants.{Answered, Refused, Short}
-use Rattle.ask.specs.Ask.{Asked, number_of, value_of, coded, early, start_of, question_of, Lines, never, reached, Areas, Outcome, answer_with, Comes, ComesTo, AskedInBytes, CodedAs}
+use Rattle.ask.specs.Ask.{Answer, Answered, Refused, Short, Asked, number_of, value_of, coded, early, start_of, question_of, Lines, never, reached, Areas, Outcome, answer_with, Comes, ComesTo, AskedInBytes, CodedAs}
 
 -- ---- a refusal of a text has a number, and its line is a line of the text
 

@@ -1,6 +1,6 @@
 -- The ask: what it answers, and what it leaves in each lent area (document 01, "What is asked and what comes back").
 -- Assumes nothing.
-use Rattle.std.specs.Prelude.{◌≡◌, Bool, false, not, cond, ◌&&◌, ◌||◌, List, ◌++◌, ℕ, zero, suc, min, ◌+◌, ◌*◌, ◌/◌, eqb, leb, ltb, length, drop}
+use Rattle.std.specs.Prelude.{◌≡◌, Bool, false, not, cond, ◌&&◌, ◌||◌, List, ◌++◌, ℕ, zero, suc, min, ◌+◌, ◌*◌, ◌/◌, eqb, leb, ltb, length, drop, Result, Ok, Err}
 use Rattle.paths.specs.Path.{good_path}
 use Rattle.lines.specs.Line.{zeros}
 use Rattle.gran.specs.Policy.{Policy, no_id}
@@ -11,8 +11,9 @@ use Rattle.gran.specs.Run.{Shown, Unreached}
 use Rattle.store.specs.Layout.{layout}
 use Rattle.records.specs.Record.{records_of, step_lines, summary}
 use Rattle.policy.specs.Load.{Reading, refused, accepted, reading}
-use Rattle.ask.specs.declared.Answer.{Answer}
-use Rattle.ask.specs.declared.Answer.TheVariants.{Answered, Refused, Short}
+use Rattle.gran.specs.declared.Asked as code
+use Rattle.ask.specs.declared.Unanswered.{Unanswered}
+use Rattle.ask.specs.declared.Unanswered.TheVariants.{Refused as refused_for, Short as short_by}
 
 -- What is asked about a policy.
 pub record Asked : Type 0 where
@@ -21,6 +22,25 @@ pub record Asked : Type 0 where
   pub start : List ℕ
   pub target : List ℕ
   pub kind : ℕ
+
+-- What a call is given to ask.
+abbrev pub asked_of : code.Asked → Asked
+asked_of a = record { uid = a.uid; gid = a.gid; start = a.start.now; target = a.target.now; kind = a.kind }
+
+-- What an ask answers.
+pub data Answer : Type 0 where
+  -- The answer's length.
+  Answered : ℕ → Answer
+  -- A refusal from 1 to 16, and its line.
+  Refused : ℕ → ℕ → Answer
+  -- The answer does not fit the room: 17, with the bytes needed.
+  Short : ℕ → Answer
+
+-- What a call returns says that: a law says that it loses nothing.
+abbrev pub answer_of : Result ℕ Unanswered → Answer
+answer_of (Ok size) = Answered size
+answer_of (Err (refused_for number line)) = Refused number line
+answer_of (Err (short_by needed)) = Short needed
 
 -- ---- 01's number and value for each case of the answer
 

@@ -1,13 +1,14 @@
 // The ask: the refusals that come before the text is read, and an answer as numbers. Rests on all below.
-// What a reader must believe stands in specs/Ask.antt: `AskedAs`; `number_of`, `value_of` and `coded`; `early`.
+// What a reader must believe stands in specs/Ask.antt: `AskedAs`; `answer_of`, `number_of`, `value_of` and `coded`; `early`.
 #![tactic(auto)]
 
-ghost use Rattle.std.specs.Prelude.{◌≡◌, false, ◌&&◌, ◌||◌, eqb};
-ghost use Rattle.paths.specs.Path.{good_path};
-ghost use Rattle.gran.specs.Policy.{no_id};
-ghost use Rattle.ask.specs.Ask.{number_of, value_of, coded, early};
+ghost use Rattle.std.specs.Prelude.{◌≡◌};
+ghost use Rattle.policy.specs.Refused.{number_in, refusal_number};
+ghost use Rattle.ask.specs.Ask.{answer_of, asked_of, number_of, value_of, coded, early};
+ghost use Rattle.ask.specs.declared.Unanswered.TheVariants.{Refused as refused};
 
-use gran::NO_ID;
+use gran::{Asked, NO_ID};
+use policy::refusal::{Refusal, Refused};
 
 // The longest text, and the least lengths of the store, in bytes, and of the work area, in numbers.
 pub const TEXT: usize = 32768;
@@ -19,105 +20,80 @@ pub const WORK: usize = 24576;
 // The largest value that a coded answer has room for.
 const LARGEST: usize = 4294967295;
 
-// What an ask answers.
-#[derive(Clone, Copy)]
-pub enum Answer {
-    // The answer's length.
-    Answered(usize),
-    // A refusal from 1 to 16, and its line.
+// What an ask answers: the answer's length, or why there is none.
+pub type Answer = Result<usize, Unanswered>;
+
+#[derive(Clone, Copy, PartialEq, Eq)]
+pub enum Unanswered {
+    // The ask or the text is refused, with a number from 1 to 16 and the line. A number, since `number`, `code` and what is printed are promised
+    // for every one of them.
     Refused(u8, usize),
     // The answer does not fit the room: 17, with the bytes needed.
     Short(usize),
 }
 
-impl Answer {
-    // 0 for an accepted ask, else the refusal.
-    pub fn number(self) -> u8
-        ensures { result ≡ number_of self }
-    {
-        match self {
-            Answer::Answered(_) => 0,
-            Answer::Refused(number, _) => number,
-            Answer::Short(_) => 17,
-        }
-    }
+impl From<Refused> for Unanswered {
+    ghost from_gives = { λ r u. u ≡ refused (refusal_number r.refusal) r.line };
 
-    // The answer's length, the refusal's line, or the bytes needed.
-    pub fn value(self) -> usize
-        ensures { result ≡ value_of self }
-    {
-        match self {
-            Answer::Answered(size) => size,
-            Answer::Refused(_, line) => line,
-            Answer::Short(needed) => needed,
-        }
+    fn from(refused: Refused) -> Unanswered {
+        Unanswered::Refused(refused.refusal.number(), refused.line)
+    }
+}
+
+// 0 for an accepted ask, else the refusal.
+pub fn number(answer: Answer) -> u8
+    ensures { result ≡ number_of (answer_of answer) }
+{
+    match answer {
+        Ok(_) => 0,
+        Err(Unanswered::Refused(number, _)) => number,
+        Err(Unanswered::Short(_)) => 17,
+    }
+}
+
+// The answer's length, the refusal's line, or the bytes needed.
+pub fn value(answer: Answer) -> usize
+    ensures { result ≡ value_of (answer_of answer) }
+{
+    match answer {
+        Ok(size) => size,
+        Err(Unanswered::Refused(_, line)) => line,
+        Err(Unanswered::Short(needed)) => needed,
     }
 }
 
 // The answer as one number, for C.
 #[tactic(auto, unfolding(crate::specs::Ask::coded))]
-pub fn code(a: Answer) -> u64
-    ensures { result ≡ coded a }
+pub fn code(answer: Answer) -> u64
+    ensures { result ≡ coded (answer_of answer) }
 {
-    let number = a.number() as u64;
-    let value = a.value();
-    if LARGEST < value {
-        return number * 4294967296 + 4294967295;
-    }
+    let number = u64::from(number(answer));
+    let value = value(answer).min(LARGEST);
     number * 4294967296 + value as u64
 }
 
-// Whether start and target are paths of at most 64 bytes.
-fn good_paths(start: &[u8], target: &[u8]) -> bool
-    ensures { result ≡ good_path false start.now && good_path false target.now }
-{
-    if !paths::good_path(start, false) {
-        return false;
-    }
-    paths::good_path(target, false)
-}
-
-// Whether one of the ids names nobody.
-fn names_nobody(uid: u32, gid: u32) -> bool
-    ensures { result ≡ eqb uid no_id || eqb gid no_id }
-{
-    if uid == NO_ID {
-        return true;
-    }
-    gid == NO_ID
-}
-
-// The lowest of the refusals 1 to 6, over the lengths of text, store and work area, or 0.
+// The lowest of the refusals 1 to 6, over the lengths of text, store and work area.
 #[tactic(auto, unfolding(crate::specs::Ask::early))]
-pub fn early(
-    text: usize,
-    store: usize,
-    work: usize,
-    start: &[u8],
-    target: &[u8],
-    uid: u32,
-    gid: u32,
-    kind: u8,
-) -> u8
-    ensures { result ≡ early text store work (record { uid = uid; gid = gid; start = start.now; target = target.now; kind = kind }) }
+pub fn early(text: usize, store: usize, work: usize, asked: Asked) -> Result<(), Refusal>
+    ensures { number_in result ≡ early text store work (asked_of asked.entry) }
 {
     if TEXT < text {
-        return 1;
+        return Err(Refusal::LongText);
     }
     if store < STORE {
-        return 2;
+        return Err(Refusal::ShortStore);
     }
     if work < WORK {
-        return 3;
+        return Err(Refusal::ShortWork);
     }
-    if !good_paths(start, target) {
-        return 4;
+    if !(paths::good_path(asked.start, false) && paths::good_path(asked.target, false)) {
+        return Err(Refusal::BadPath);
     }
-    if names_nobody(uid, gid) {
-        return 5;
+    if asked.uid == NO_ID || asked.gid == NO_ID {
+        return Err(Refusal::Nobody);
     }
-    if 1 < kind {
-        return 6;
+    if 1 < asked.kind {
+        return Err(Refusal::BadKind);
     }
-    0
+    Ok(())
 }

@@ -1,3 +1,3 @@
 pub mod Roots
 pub mod Stored
-pub mod Crowd
+pub mod Marks

@@ -4,13 +4,13 @@ use mathlib.Core.Path.{◌≡◌, ◌∙◌, refl, sym, ap}
 use mathlib.Core.Logic.{◌⊎◌, inl, inr}
 use mathlib.Core.Bool.{Bool, true, false, not, cond, ◌&&◌, ◌||◌, So, and-false}
 use mathlib.Core.List.{List, [], ◌∷◌, map}
-use Prim.Native.Nat.{ℕ, zero, suc, ◌+◌, ◌-◌, ◌≤◌, ◌<◌}
+use Prim.Native.Nat.{ℕ, zero, suc, ◌+◌, ◌-◌, ◌<◌}
 use native.Mathlib.Nat.{not-suc-le-zero, le_of_suc-le-suc}
 use native.Mathlib.Numerals.{add-one}
 use native.Mathlib.Omega.{arith}
 use borrow.Author.Tests.{ne_eqb}
-use lib.Dec.{eqb, ltb}
-use lib.ListN.{length, get_or, drop, drop_of_length-le}
+use lib.Dec.{eqb}
+use lib.ListN.{length, get_or, drop}
 use lib.Seq.{drop-cons}
 use Rattle.paths.specs.Path.{slash, is_slash, good_path, is_path}
 use Rattle.paths.proofs.Bools.{left, or_left, or_right, iff-≡, eqb_of, eqb-to}
@@ -19,11 +19,10 @@ use Rattle.gran.specs.Lists.{none, any, only, place, member, numbers, All}
 use Rattle.gran.specs.Policy.{Policy, Object, Entry, DEFAULT}
 use Rattle.gran.specs.Match.{no_entry, subject_path, object_path, of_role, is_entry, subjects_of, objects_of}
 use Rattle.gran.specs.Role.{of_kind}
-use Rattle.gran.specs.Good.{is_root, roles_of, states_of}
-use Rattle.gran.proofs.Lists.{all_at, distinct_at, place_is, place-any, numbers-next, numbers-end}
+use Rattle.gran.specs.Good.{is_root, roles_of}
+use Rattle.gran.proofs.Lists.{all_at, distinct_at, place_is, place-any, numbers-next}
 use Rattle.store.specs.Layout.{root_of}
 use Rattle.policy.specs.Load.{lacks_entry, lacks_object, unrooted}
-use Rattle.ending.specs.End.{end_refusal}
 use Rattle.policy.specs.Sound.{SoundObject, SoundEntry, SoundPolicy}
 
 -- ---- loops
@@ -32,26 +31,9 @@ module _ {A : Type 0} (test : A → Bool) (xs : List A) (d : A) (i : ℕ) where
   pub place-next : i < length xs → (r : Bool) → r ≡ test (get_or xs i d) → place test i (drop i xs) ≡ cond r i (place test (i + 1) (drop (i + 1) xs))
   place-next h r e = rw (add-one, drop-cons xs i d h, e)
 
-module _ {A : Type 0} (test : A → Bool) (xs : List A) (i : ℕ) where
-  pub place_end : length xs ≤ i → place test i (drop i xs) ≡ none
-  place_end h = rw (drop_of_length-le xs {i = i} h)
-
 module _ (test : ℕ → Bool) (n i : ℕ) where
   pub number-next : i < n → (r : Bool) → r ≡ test i → any test (numbers i (n - i)) ≡ (r || any test (numbers (i + 1) (n - (i + 1))))
   number-next h r e = rw (numbers-next i n h, e)
-
-  pub number-end : n ≤ i → any test (numbers i (n - i)) ≡ false
-  number-end h = rw (numbers-end i n h)
-
-  pub counted : (count : ℕ) → i < n → (r : Bool) → r ≡ test i → count + length (only test (numbers i (n - i))) ≡ cond r (count + 1) count + length (only test (numbers (i + 1) (n - (i + 1))))
-  counted count h r e = rw (numbers-next i n h, ← e) (go r)
-    where
-      go : (b : Bool) → count + length (cond b (i ∷ only test (numbers (i + 1) (n - (i + 1)))) (only test (numbers (i + 1) (n - (i + 1))))) ≡ cond b (count + 1) count + length (only test (numbers (i + 1) (n - (i + 1))))
-      go true = omega arith
-      go false = omega arith
-
-  pub count-end : n ≤ i → length (only test (numbers i (n - i))) ≡ 0
-  count-end h = rw (numbers-end i n h)
 
 -- ---- a default role
 
@@ -123,18 +105,3 @@ module _ (P : Policy) (sound : SoundPolicy P) where
 
   pub root_here : (n : ℕ) → n < length P.paths → is_slash (get_or P.paths n []) ≡ eqb (length (get_or P.paths n [])) 1
   root_here n l = slash_one _ (all_at _ P.paths [] sound.paths.good n l)
-
--- ---- the refusal
-
-module _ (P : Policy) where
-  pub refusal-15 : unrooted P ≡ true → end_refusal P ≡ 15
-  unfolding end_refusal
-  refusal-15 e = rw e
-
-  pub refusal-16 : unrooted P ≡ false → ltb 8192 (states_of P) ≡ true → end_refusal P ≡ 16
-  unfolding end_refusal
-  refusal-16 e f = rw (e, f)
-
-  pub no-refusal : unrooted P ≡ false → ltb 8192 (states_of P) ≡ false → end_refusal P ≡ 0
-  unfolding end_refusal
-  no-refusal e f = rw (e, f)

@@ -1,56 +1,24 @@
--- Numbers and parts that are read at a place of any bytes: past the end, behind a place, inside.
+-- Numbers and parts that are read at a place of any bytes.
 -- Assumes nothing.
 use mathlib.Core.Path.{◌≡◌, sym, ◌∙◌}
 use mathlib.Core.Bool.{false, ◌&&◌, and-false}
 use mathlib.Core.List.{List, []}
-use Prim.Native.Nat.{ℕ, ◌+◌, ◌-◌, ◌*◌, ◌≤◌, ◌<◌}
+use Prim.Native.Nat.{ℕ, ◌+◌, ◌*◌, ◌≤◌, ◌<◌}
 use native.Mathlib.Nat.{add-zero, add_assoc}
 use native.Mathlib.Omega.{arith}
-use borrow.Author.Tests.{le-leb, lt-leb, le-ltb, lt-ltb}
+use borrow.Author.Tests.{le-leb, le-ltb, lt-ltb}
 use lib.Dec.{leb, ltb}
-use lib.ListN.{length, get_or, take, drop, length-drop, get_or-eq_default}
-use lib.Seq.{take_all, get_or-drop}
+use lib.ListN.{length, get_or, take, drop}
 use Rattle.store.specs.Layout.{two, four}
 use Rattle.store.proofs.Reading.{two_number, four_number}
 use Rattle.fields.specs.Fields.{byte_at, word_at, long_at, part_of, part_place, path_in, path_place, path_count, Pointer, Handed}
 
 module _ (s : List ℕ) where
-  pub word_past : (at : ℕ) → length s ≤ at → word_at s at ≡ 0
-  unfolding word_at
-  word_past at h =
-      let more : length s ≤ at + 1 = omega arith in
-      rw (get_or-eq_default s 0 h, get_or-eq_default s 0 more)
-
-  pub long_past : (at : ℕ) → length s ≤ at → long_at s at ≡ 0
-  unfolding long_at
-  long_past at h = rw (word_past at h, word_past (at + 2) (omega arith))
-
-  word-behind : (at i : ℕ) → word_at (drop at s) i ≡ word_at s (at + i)
-  unfolding word_at
-  word-behind at i = rw (get_or-drop at s i 0, get_or-drop at s (i + 1) 0, add_assoc at i 1)
-
-  -- from a place on, as the rest is lent
-  pub long-behind : (at : ℕ) → word_at (take (length s - at) (drop at s)) 0 * 65536 + word_at (take (length s - at) (drop at s)) 2 ≡ long_at s at
-  unfolding long_at
-  long-behind at = rw (take_all (length s - at) (drop at s) (omega (arith, length-drop at s)), word-behind at 0, word-behind at 2, add-zero at)
-
   pub part_inside : (from size : ℕ) → from + size ≤ length s → part_of s from size ≡ take size (drop from s)
   unfolding part_of
   part_inside from size h = rw (le-leb (from + size) (length s) h)
 
-  pub place_inside : (from size : ℕ) → from + size ≤ length s → part_place s from size ≡ from
-  unfolding part_place
-  place_inside from size h = rw (le-leb (from + size) (length s) h)
-
-  pub part_outside : (from size : ℕ) → length s < from + size → (part_of s from size ≡ []) × (part_place s from size ≡ 0)
-  unfolding part_of part_place
-  part_outside from size h = let past = lt-leb (from + size) (length s) h in (rw past, rw past)
-
   module _ (n : ℕ) where
-    pub path_short : length s < 676 + 3 * n + 3 → (path_in s n ≡ []) × (path_place s n ≡ 0)
-    unfolding path_in path_place
-    path_short h = let past = lt-leb (676 + 3 * n + 3) (length s) h in (rw past, rw past)
-
     pub path_unknown : path_count s ≤ n → (path_in s n ≡ []) × (path_place s n ≡ 0)
     unfolding path_in path_place
     path_unknown l =

@@ -11,7 +11,7 @@ ghost use Rattle.gran.specs.Exec.{exec_may};
 ghost use Rattle.gran.specs.Abstract.{set_special, set_user, set_group, exec, next, begun};
 ghost use Rattle.gran.specs.Real.{started, taken, user_set, group_set, executing};
 
-// No role, no path.
+// No role, no path. A number and no `Option`: the definitions of a state (specs/Role.antt: `chosen`) and the steps that C reads have it.
 pub const NONE: u8 = 255;
 
 // The id that names nobody.
@@ -56,10 +56,7 @@ impl Modes {
         requires { 0 < bit }
         ensures { result ≡ sees self.bits bit }
     {
-        if has_bit(self.bits, Modes::HIDE) {
-            return false;
-        }
-        has_bit(self.bits, bit)
+        has_bit(self.bits, bit) && !has_bit(self.bits, Modes::HIDE)
     }
 
     pub fn executable(self) -> bool
@@ -68,15 +65,12 @@ impl Modes {
         self.sees(Modes::EXEC)
     }
 
-    // Whether the access of a kind is granted: 0 read, else write.
+    // Whether the access of a kind is granted: 0 read, else write, as a question has it (specs/Access.antt: `asked`).
     #[tactic(auto, unfolding(crate::specs::Access::grant, crate::specs::Access::asked))]
     pub fn grants(self, kind: u8) -> bool
         ensures { result ≡ grant kind self.bits }
     {
-        if kind == 0 {
-            return self.sees(Modes::READ);
-        }
-        self.sees(Modes::WRITE)
+        self.sees(if kind == 0 { Modes::READ } else { Modes::WRITE })
     }
 }
 
@@ -120,21 +114,18 @@ pub fn role_in_force(special: u8, user: u8, group: u8, fallback: u8) -> u8
     }
 }
 
-// Whether a mode allows an id, which is listed or not: 0 all, 1 only those listed, 2 all but those listed.
+// Whether a mode allows an id, which is listed or not: 0 all, 1 only those listed, 2 all but those listed. A number, for which the definition
+// `allowed_by` says each case.
 #[tactic(auto, unfolding(crate::specs::Role::allowed_by))]
 pub fn allowed_by(mode: u8, listed: bool, id: u32) -> bool
     ensures { result ≡ allowed_by mode listed id }
 {
-    if id == NO_ID {
-        return false;
-    }
-    if mode == 0 {
-        return true;
-    }
-    if mode == 1 {
-        return listed;
-    }
-    !listed
+    let by_mode = match mode {
+        0 => true,
+        1 => listed,
+        _ => !listed,
+    };
+    id != NO_ID && by_mode
 }
 
 // The exec rule: an id stays, or becomes any allowed one.
@@ -142,10 +133,7 @@ pub fn allowed_by(mode: u8, listed: bool, id: u32) -> bool
 pub fn exec_may(kept: bool, allowed: bool) -> bool
     ensures { result ≡ exec_may kept allowed }
 {
-    if kept {
-        return true;
-    }
-    allowed
+    kept || allowed
 }
 
 // An abstract state: special, user and group role, or none, and a path of S.
@@ -170,25 +158,28 @@ impl State {
         }
     }
 
-    pub fn take_special(mut self, role: u8) -> Self
+    pub fn take_special(self, role: u8) -> Self
         ensures { result ≡ next self (set_special role) }
     {
-        self.special = role;
-        self
+        State {
+            special: role,
+            ..self
+        }
     }
 
-    pub fn set_user(mut self, role: u8) -> Self
+    pub fn set_user(self, role: u8) -> Self
         ensures { result ≡ next self (set_user role) }
     {
-        self.user = role;
-        self
+        State { user: role, ..self }
     }
 
-    pub fn set_group(mut self, role: u8) -> Self
+    pub fn set_group(self, role: u8) -> Self
         ensures { result ≡ next self (set_group role) }
     {
-        self.group = role;
-        self
+        State {
+            group: role,
+            ..self
+        }
     }
 
     // The object decides whether the step may be done, and not what comes of it.
@@ -196,10 +187,10 @@ impl State {
         ensures { result ≡ next self (exec object user group subject) }
     {
         State {
-            special: self.special,
             user,
             group,
             subject,
+            ..self
         }
     }
 }
@@ -226,35 +217,35 @@ impl Process {
         }
     }
 
-    pub fn take_special(mut self, role: u8) -> Self
+    pub fn take_special(self, role: u8) -> Self
         ensures { result ≡ taken self role }
     {
-        self.special = role;
-        self
+        Process {
+            special: role,
+            ..self
+        }
     }
 
-    pub fn set_user(mut self, uid: u32) -> Self
+    pub fn set_user(self, uid: u32) -> Self
         ensures { result ≡ user_set self uid }
     {
-        self.uid = uid;
-        self
+        Process { uid, ..self }
     }
 
-    pub fn set_group(mut self, gid: u32) -> Self
+    pub fn set_group(self, gid: u32) -> Self
         ensures { result ≡ group_set self gid }
     {
-        self.gid = gid;
-        self
+        Process { gid, ..self }
     }
 
     pub fn execute(self, file: u8, uid: u32, gid: u32) -> Self
         ensures { result ≡ executing self file uid gid }
     {
         Process {
-            special: self.special,
             uid,
             gid,
             file,
+            ..self
         }
     }
 }

@@ -1,38 +1,30 @@
--- Searches along a row of readings, as a loop goes: here, further on, at the end.
+-- Searches along a row of readings: over the places of a range as over the list of the readings.
 -- Assumes nothing.
-use mathlib.Core.Path.{◌≡◌}
-use mathlib.Core.Bool.{Bool, true, false, So}
-use mathlib.Core.List.{[], ◌∷◌}
-use Prim.Native.Nat.{ℕ, suc, ◌+◌, ◌-◌, ◌≤◌, ◌<◌}
-use native.Mathlib.Numerals.{add-one}
-use native.Mathlib.Omega.{arith}
+use Rattle.std.proofs.Common.{◌≡◌, refl, ℕ, zero, suc, ◌+◌, add-one, Bool, true, false, cond, Option, None, Some, unwrap_or, option_map, ap, ◌∙◌}
+use Rattle.std.specs.List.{list_any, find, range_with_len}
 use Rattle.gran.specs.Lists.{none, any, place}
 use Rattle.fields.specs.Fields.{row}
 
-module _ {A : Type 0} (f : ℕ → A) (n i : ℕ) where
-  row_here : i < n → row f i (n - i) ≡ f i ∷ row f (i + 1) (n - (i + 1))
+module _ {A : Type 0} (f : ℕ → A) (test : A → Bool) where
+  pub any_row : (k n : ℕ) → list_any (λ (i : ℕ). test (f i)) (range_with_len k n) ≡ any test (row f k n)
   unfolding row
-  row_here l = let e : n - i ≡ suc (n - (i + 1)) = omega arith in rw (e, add-one i)
+  any_row k zero = refl
+  any_row k (suc n) = rw (add-one, any_row (suc k) n)
 
-  row-end : n ≤ i → row f i (n - i) ≡ []
+  pub place_row : (k n : ℕ) → unwrap_or (find (λ (i : ℕ). test (f i)) (range_with_len k n)) none ≡ place test k (row f k n)
   unfolding row
-  row-end l = let e : n - i ≡ 0 = omega arith in rw e
+  place_row k zero = refl
+  place_row k (suc n) = go (test (f k)) (place_row (suc k) n)
+    where
+      rest : Option ℕ
+      rest = find (λ (i : ℕ). test (f i)) (range_with_len (k + 1) n)
 
-  module _ (test : A → Bool) where
-    pub any_here : i < n → So (test (f i)) → any test (row f i (n - i)) ≡ true
-    any_here l t = rw (row_here l, t)
+      go : (b : Bool) → unwrap_or (find (λ (i : ℕ). test (f i)) (range_with_len (suc k) n)) none ≡ place test (suc k) (row f (suc k) n)
+          → unwrap_or (cond b (Some k) rest) none ≡ cond b k (place test (suc k) (row f (suc k) n))
+      go true e = refl
+      go false e = rw add-one e
 
-    pub any_next : i < n → test (f i) ≡ false → any test (row f i (n - i)) ≡ any test (row f (i + 1) (n - (i + 1)))
-    any_next l t = rw (row_here l, t)
-
-    pub any-end : n ≤ i → any test (row f i (n - i)) ≡ false
-    any-end l = rw (row-end l)
-
-    pub place_here : i < n → So (test (f i)) → place test i (row f i (n - i)) ≡ i
-    place_here l t = rw (row_here l, t)
-
-    pub place-next : i < n → test (f i) ≡ false → place test i (row f i (n - i)) ≡ place test (i + 1) (row f (i + 1) (n - (i + 1)))
-    place-next l t = rw (row_here l, t, add-one i)
-
-    pub place_end : n ≤ i → place test i (row f i (n - i)) ≡ none
-    place_end l = rw (row-end l)
+  -- what is found, or none
+  pub place_found : (r : Option ℕ) (n : ℕ) → option_map (λ i. i) r ≡ find (λ (i : ℕ). test (f i)) (range_with_len 0 n) → unwrap_or r none ≡ place test 0 (row f 0 n)
+  place_found None n e = ap (λ o. unwrap_or o none) e ∙ place_row 0 n
+  place_found (Some i) n e = ap (λ o. unwrap_or o none) e ∙ place_row 0 n

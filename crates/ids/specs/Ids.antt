@@ -1,9 +1,16 @@
 -- The allowed ids of an entry by the kind of their roles, and the least of a row of numbers, as a loop finds it.
 -- Assumes nothing.
 use Rattle.std.specs.Prelude.{cond, List, ℕ, zero, suc, eqb, ltb}
-use Rattle.gran.specs.Policy.{Policy, Allowed, Entry, USER, no_id}
+use Rattle.gran.specs.Policy.{Policy, Allowed, Entry, USER, GROUP, no_id}
 use Rattle.gran.specs.Abstract.{is_free}
+use Rattle.ids.specs.declared.Ids.{Ids}
+use Rattle.ids.specs.declared.Ids.TheVariants.{Users, Groups}
 use Rattle.fields.specs.Fields.{row, user_mode, group_mode, uid_count, gid_count, uid_at, gid_at}
+
+-- The kind of the roles that have the ids.
+abbrev pub kind_of : Ids → ℕ
+kind_of Users = USER
+kind_of Groups = GROUP
 
 -- The allowed users of an entry for kind user, else its allowed groups.
 abbrev pub allowed_of : ℕ → Entry → Allowed

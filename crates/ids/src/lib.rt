@@ -3,7 +3,7 @@
 #![tactic(auto)]
 
 ghost use Rattle.std.specs.Prelude.{◌≡◌, List, ℕ, ◌≤◌, ◌<◌, length};
-ghost use Rattle.gran.specs.Policy.{Policy, USER, GROUP};
+ghost use Rattle.gran.specs.Policy.{Policy};
 ghost use Rattle.gran.specs.Lists.{none, member};
 ghost use Rattle.gran.specs.Good.{roles_of};
 ghost use Rattle.gran.specs.Role.{role_of, default_role, is_role, is_move, may_take, allows};
@@ -11,41 +11,53 @@ ghost use Rattle.gran.specs.Abstract.{is_free, free_id, reaches};
 ghost use Rattle.store.specs.Held.{Loaded};
 ghost use Rattle.fields.specs.Fields.{role_read, move_read};
 ghost use Rattle.lookup.specs.Lookup.{entry_at};
-ghost use Rattle.ids.specs.Ids.{allowed_of, id_count, id_at, allowed_read, candidate_count, candidate_at, offered, lesser};
+ghost use Rattle.ids.specs.Ids.{kind_of, allowed_of, id_count, id_at, allowed_read, candidate_count, candidate_at, offered};
 
-// Kinds of roles.
-pub const USER: u8 = 0x75;
+use store::RoleKind;
 
-pub const GROUP: u8 = 0x67;
+// Kinds of roles as the store has them, in bytes: `role_of` and `has_free` answer for any byte.
+pub const USER: u8 = RoleKind::User as u8;
 
-const DEFAULT: u8 = 0x2d;
+pub const GROUP: u8 = RoleKind::Group as u8;
+
+const DEFAULT: u8 = RoleKind::Default as u8;
 
 // Under modes 0 and 2 some id below this one is free.
 const BELOW: u8 = 32;
+
+// Whose ids.
+#[derive(Clone, Copy, PartialEq, Eq)]
+pub enum Ids {
+    Users,
+    Groups,
+}
+
+impl Ids {
+    // The kind of the roles that have such ids.
+    pub fn kind(self) -> u8
+        ensures { result ≡ kind_of self }
+    {
+        match self {
+            Ids::Users => USER,
+            Ids::Groups => GROUP,
+        }
+    }
+}
 
 // Whether role `r` is of the kind and has the id.
 fn is_role(store: &[u8], r: u8, kind: u8, id: u32) -> bool
     ensures { result ≡ is_role kind id (role_read store.now r) }
 {
-    if fields::role_kind(store, r) != kind {
-        return false;
-    }
-    fields::role_id(store, r) == id
+    fields::role_kind(store, r) == kind && fields::role_id(store, r) == id
 }
 
 // The role of the kind that has the id, or none.
 pub fn role_of(store: &[u8], kind: u8, id: u32) -> u8
     ensures { (P : Policy) (rest : List ℕ) → Loaded P rest store.now → result ≡ role_of P kind id }
 {
-    let count = fields::role_count(store);
-    let mut r: u8 = 0;
-    while r < count {
-        if is_role(store, r, kind, id) {
-            return r;
-        }
-        r += 1;
-    }
-    gran::NONE
+    (0..fields::role_count(store))
+        .find(|r| is_role(store, *r, kind, id))
+        .unwrap_or(gran::NONE)
 }
 
 // The default role, whose id is 0.
@@ -59,185 +71,155 @@ pub fn default_role(store: &[u8]) -> u8
 fn is_move(store: &[u8], i: u8, role: u8, special: u8) -> bool
     ensures { result ≡ is_move role special (move_read store.now i) }
 {
-    if fields::move_role(store, i) != role {
-        return false;
-    }
-    fields::move_special(store, i) == special
+    fields::move_role(store, i) == role && fields::move_special(store, i) == special
 }
 
 // Whether the role lets a process take the special role, or none.
+#[tactic(auto, unfolding(gran::specs::Role::may_take))]
 pub fn may_take(store: &[u8], role: u8, special: u8) -> bool
     ensures { (P : Policy) (rest : List ℕ) → Loaded P rest store.now → result ≡ may_take P role special }
 {
-    if special == gran::NONE {
-        return true;
-    }
-    let count = fields::move_count(store);
-    let mut i: u8 = 0;
-    while i < count {
-        if is_move(store, i, role, special) {
-            return true;
+    special == gran::NONE
+        || (0..fields::move_count(store)).any(|i| is_move(store, i, role, special))
+}
+
+// The ids of one kind of roles that an entry allows: users for kind user, else groups. Not an `Ids`: `has_free` takes any kind.
+#[derive(Clone, Copy)]
+struct Allowed<'a> {
+    store: &'a [u8],
+    kind: u8,
+    entry: u8,
+}
+
+impl<'a> Allowed<'a> {
+    fn mode(self) -> u8
+        ensures { result ≡ (allowed_read self.entry.store.now self.entry.kind self.entry.entry).mode }
+    {
+        if self.kind == USER {
+            fields::user_mode(self.store, self.entry)
+        } else {
+            fields::group_mode(self.store, self.entry)
         }
-        i += 1;
     }
-    false
-}
 
-// The allowed users of an entry for kind user, else its allowed groups: the mode, how many are listed, each of them.
-fn mode(store: &[u8], kind: u8, entry: u8) -> u8
-    ensures { result ≡ (allowed_read store.now kind entry).mode }
-{
-    if kind == USER {
-        fields::user_mode(store, entry)
-    } else {
-        fields::group_mode(store, entry)
-    }
-}
-
-#[tactic(auto, unfolding(crate::specs::Ids::id_count))]
-fn id_count(store: &[u8], kind: u8, entry: u8) -> u8
-    ensures { result ≡ id_count store.now kind entry }
-{
-    if kind == USER {
-        fields::uid_count(store, entry)
-    } else {
-        fields::gid_count(store, entry)
-    }
-}
-
-#[tactic(auto, unfolding(crate::specs::Ids::id_at))]
-fn id_at(store: &[u8], kind: u8, entry: u8, i: u8) -> u32
-    ensures { result ≡ id_at store.now kind entry i }
-{
-    if kind == USER {
-        fields::uid(store, entry, i)
-    } else {
-        fields::gid(store, entry, i)
-    }
-}
-
-// Whether the entry lists the id.
-fn is_listed(store: &[u8], kind: u8, entry: u8, id: u32) -> bool
-    ensures { result ≡ member id (allowed_read store.now kind entry).ids }
-{
-    let count = id_count(store, kind, entry);
-    let mut i: u8 = 0;
-    while i < count {
-        if id == id_at(store, kind, entry, i) {
-            return true;
+    // How many are listed.
+    #[tactic(auto, unfolding(crate::specs::Ids::id_count))]
+    fn count(self) -> u8
+        ensures { result ≡ id_count self.entry.store.now self.entry.kind self.entry.entry }
+    {
+        if self.kind == USER {
+            fields::uid_count(self.store, self.entry)
+        } else {
+            fields::gid_count(self.store, self.entry)
         }
-        i += 1;
     }
-    false
+
+    // The listed id at place `i`.
+    #[tactic(auto, unfolding(crate::specs::Ids::id_at))]
+    fn at(self, i: u8) -> u32
+        ensures { result ≡ id_at self.entry.store.now self.entry.kind self.entry.entry i }
+    {
+        if self.kind == USER {
+            fields::uid(self.store, self.entry, i)
+        } else {
+            fields::gid(self.store, self.entry, i)
+        }
+    }
+
+    // Whether the id is listed.
+    fn lists(self, id: u32) -> bool
+        ensures { result ≡ member id (allowed_read self.entry.store.now self.entry.kind self.entry.entry).ids }
+    {
+        (0..self.count()).any(|i| id == self.at(i))
+    }
+
+    // Whether the id is allowed.
+    #[tactic(auto, unfolding(gran::specs::Role::allows))]
+    fn allows(self, id: u32) -> bool
+        ensures { result ≡ allows (allowed_read self.entry.store.now self.entry.kind self.entry.entry) id }
+    {
+        gran::allowed_by(self.mode(), self.lists(id), id)
+    }
+
+    // Whether the id is allowed, and has no role of the kind.
+    fn is_free(self, id: u32) -> bool
+        ensures { (P : Policy) (rest : List ℕ) → Loaded P rest self.entry.store.now → self.entry.entry < length P.entries → result ≡ is_free P self.entry.kind (allowed_of self.entry.kind (entry_at P self.entry.entry)) id }
+    {
+        self.allows(id) && role_of(self.store, self.kind, id) == gran::NONE
+    }
+
+    // The ids among which the smallest free one is: the listed ones where only those are allowed, else the first.
+    #[tactic(auto, unfolding(crate::specs::Ids::candidate_count))]
+    fn candidate_count(self) -> u8
+        ensures { result ≡ candidate_count self.entry.store.now self.entry.kind self.entry.entry }
+    {
+        if self.mode() == 1 {
+            self.count()
+        } else {
+            BELOW
+        }
+    }
+
+    #[tactic(auto, unfolding(crate::specs::Ids::candidate_at))]
+    fn candidate(self, i: u8) -> u32
+        ensures { result ≡ candidate_at self.entry.store.now self.entry.kind self.entry.entry i }
+    {
+        if self.mode() == 1 {
+            self.at(i)
+        } else {
+            u32::from(i)
+        }
+    }
+
+    // Candidate `i` where it is free, else the id that names nobody.
+    #[tactic(auto, unfolding(crate::specs::Ids::offered))]
+    fn free_at(self, i: u8) -> u32
+        ensures { (P : Policy) (rest : List ℕ) → Loaded P rest self.entry.store.now → self.entry.entry < length P.entries → result ≡ offered P self.entry.kind (allowed_of self.entry.kind (entry_at P self.entry.entry)) (candidate_at self.entry.store.now self.entry.kind self.entry.entry) i }
+    {
+        let id = self.candidate(i);
+        if self.is_free(id) { id } else { gran::NO_ID }
+    }
+
+    // The smallest allowed id that has no role of the kind, or the one that names nobody.
+    fn least_free(self) -> u32
+        ensures { (P : Policy) (rest : List ℕ) → Loaded P rest self.entry.store.now → self.entry.entry < length P.entries → length (roles_of P self.entry.kind) ≤ 15 → result ≡ free_id P self.entry.kind (allowed_of self.entry.kind (entry_at P self.entry.entry)) }
+    {
+        let mut least = gran::NO_ID;
+        for i in 0..self.candidate_count() {
+            least = least.min(self.free_at(i));
+        }
+        least
+    }
 }
 
 // Whether the entry allows the id.
-#[tactic(auto, unfolding(gran::specs::Role::allows))]
-fn allows(store: &[u8], kind: u8, entry: u8, id: u32) -> bool
-    ensures { result ≡ allows (allowed_read store.now kind entry) id }
+pub fn allows(store: &[u8], ids: Ids, entry: u8, id: u32) -> bool
+    ensures { (P : Policy) (rest : List ℕ) → Loaded P rest store.now → entry < length P.entries → result ≡ allows (allowed_of (kind_of ids) (entry_at P entry)) id }
 {
-    let listed = is_listed(store, kind, entry, id);
-    gran::allowed_by(mode(store, kind, entry), listed, id)
-}
-
-// Whether the entry allows the UID.
-pub fn allows_user(store: &[u8], entry: u8, id: u32) -> bool
-    ensures { (P : Policy) (rest : List ℕ) → Loaded P rest store.now → entry < length P.entries → result ≡ allows (entry_at P entry).users id }
-{
-    allows(store, USER, entry, id)
-}
-
-// Whether the entry allows the GID.
-pub fn allows_group(store: &[u8], entry: u8, id: u32) -> bool
-    ensures { (P : Policy) (rest : List ℕ) → Loaded P rest store.now → entry < length P.entries → result ≡ allows (entry_at P entry).groups id }
-{
-    allows(store, GROUP, entry, id)
-}
-
-// Whether the entry allows the id, which has no role of the kind.
-fn is_free(store: &[u8], kind: u8, entry: u8, id: u32) -> bool
-    ensures { (P : Policy) (rest : List ℕ) → Loaded P rest store.now → entry < length P.entries → result ≡ is_free P kind (allowed_of kind (entry_at P entry)) id }
-{
-    if allows(store, kind, entry, id) {
-        return role_of(store, kind, id) == gran::NONE;
-    }
-    false
-}
-
-// The ids among which the smallest free one is: the listed ones where only those are allowed, else the first.
-#[tactic(auto, unfolding(crate::specs::Ids::candidate_count))]
-fn candidate_count(store: &[u8], kind: u8, entry: u8) -> u8
-    ensures { result ≡ candidate_count store.now kind entry }
-{
-    if mode(store, kind, entry) == 1 {
-        id_count(store, kind, entry)
-    } else {
-        BELOW
-    }
-}
-
-#[tactic(auto, unfolding(crate::specs::Ids::candidate_at))]
-fn candidate_at(store: &[u8], kind: u8, entry: u8, i: u8) -> u32
-    ensures { result ≡ candidate_at store.now kind entry i }
-{
-    if mode(store, kind, entry) == 1 {
-        id_at(store, kind, entry, i)
-    } else {
-        i as u32
-    }
-}
-
-// Candidate `i` where it is free, else the id that names nobody.
-#[tactic(auto, unfolding(crate::specs::Ids::offered))]
-fn free_at(store: &[u8], kind: u8, entry: u8, i: u8) -> u32
-    ensures { (P : Policy) (rest : List ℕ) → Loaded P rest store.now → entry < length P.entries → result ≡ offered P kind (allowed_of kind (entry_at P entry)) (candidate_at store.now kind entry) i }
-{
-    let id = candidate_at(store, kind, entry, i);
-    if is_free(store, kind, entry, id) {
-        id
-    } else {
-        gran::NO_ID
-    }
-}
-
-fn lesser(a: u32, b: u32) -> u32
-    ensures { result ≡ lesser a b }
-{
-    if b < a { b } else { a }
-}
-
-// The smallest id that the entry allows and that has no role of the kind, or the one that names nobody.
-fn free_id(store: &[u8], kind: u8, entry: u8) -> u32
-    ensures { (P : Policy) (rest : List ℕ) → Loaded P rest store.now → entry < length P.entries → length (roles_of P kind) ≤ 15 → result ≡ free_id P kind (allowed_of kind (entry_at P entry)) }
-{
-    let count = candidate_count(store, kind, entry);
-    let mut least = gran::NO_ID;
-    for i in 0..count {
-        least = lesser(least, free_at(store, kind, entry, i));
-    }
-    least
+    let allowed = Allowed {
+        store,
+        kind: ids.kind(),
+        entry,
+    };
+    allowed.allows(id)
 }
 
 // Whether the entry allows an id that has no role of the kind: where it allows all but a few there always is one.
 pub fn has_free(store: &[u8], kind: u8, entry: u8) -> bool
     ensures { (P : Policy) (rest : List ℕ) → Loaded P rest store.now → entry < length P.entries → length (roles_of P kind) ≤ 15 → result ≡ reaches P kind (allowed_of kind (entry_at P entry)) none }
 {
-    if mode(store, kind, entry) != 1 {
-        return true;
-    }
-    free_id(store, kind, entry) != gran::NO_ID
+    let allowed = Allowed { store, kind, entry };
+    allowed.mode() != 1 || allowed.least_free() != gran::NO_ID
 }
 
-// The smallest UID that the entry allows and that has no role.
-pub fn free_user(store: &[u8], entry: u8) -> u32
-    ensures { (P : Policy) (rest : List ℕ) → Loaded P rest store.now → entry < length P.entries → result ≡ free_id P USER (entry_at P entry).users }
+// The smallest id that the entry allows and that has no role, or the one that names nobody.
+pub fn free_id(store: &[u8], ids: Ids, entry: u8) -> u32
+    ensures { (P : Policy) (rest : List ℕ) → Loaded P rest store.now → entry < length P.entries → result ≡ free_id P (kind_of ids) (allowed_of (kind_of ids) (entry_at P entry)) }
 {
-    free_id(store, USER, entry)
-}
-
-// The smallest GID that the entry allows and that has no role.
-pub fn free_group(store: &[u8], entry: u8) -> u32
-    ensures { (P : Policy) (rest : List ℕ) → Loaded P rest store.now → entry < length P.entries → result ≡ free_id P GROUP (entry_at P entry).groups }
-{
-    free_id(store, GROUP, entry)
+    let allowed = Allowed {
+        store,
+        kind: ids.kind(),
+        entry,
+    };
+    allowed.least_free()
 }

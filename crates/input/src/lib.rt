@@ -13,6 +13,7 @@ pub fn fill<R: Read>(input: &mut R, area: &mut [u8]) -> io::Result<usize>
     ensures bytes { IfOk result (λ n. Consumes (R.remaining input.old) (R.remaining input.new) (take n area.new)) }
     ensures whole { IfOk result (λ n. n < length area.new → IsAtEnd (R.remaining input.new)) }
 {
+    // A read says how far it came, so no `for` counts; std's `read_exact` fails where the input is shorter than the area.
     let mut done = 0;
     while done < area.len() {
         let n = input.read(&mut area[done..])?;

@@ -34,14 +34,6 @@ module _ (path : List ℕ) (i : ℕ) where
 pub product_most : (n b : ℕ) → n ≤ 80 → b < 256 → n * b ≤ 20480
 product_most n b h l = omega (arith, mul-le-mul_right b h)
 
--- a path that has no mark is none of the policy's
-pub unmarked_new : (P : Policy) (marks path : List ℕ) → Noted P marks → get_or marks (digest_of path) 0 ≡ 0 → false ≡ any (same path) P.paths
-unmarked_new P marks path noted none = go (any (same path) P.paths) refl
-  where
-    go : (t : Bool) → any (same path) P.paths ≡ t → false ≡ t
-    go false e = refl
-    go true e = absurd (noted path e none)
-
 -- ---- a policy with one path more
 
 -- a path of the longer table is one of the shorter, or the last

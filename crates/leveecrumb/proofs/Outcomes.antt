@@ -15,10 +15,8 @@ use Rattle.policy.specs.Load.{Reading, refused, accepted, reading, settled, outc
 use Rattle.load.proofs.Callers.{loaded-holds}
 use Rattle.reply.specs.Reply.{Held, Answers}
 use Rattle.reply.proofs.Loads.{held_of}
-use Rattle.ask.specs.declared.Answer.{Answer}
-use Rattle.ask.specs.declared.Answer.TheVariants.{Refused}
 use Rattle.ask.proofs.Small.{early_lengths}
-use Rattle.ask.specs.Ask.{Asked, early, Areas, Outcome, Comes, ComesTo}
+use Rattle.ask.specs.Ask.{Answer, Refused, Asked, early, Areas, Outcome, Comes, ComesTo}
 use Rattle.leveecrumb.specs.Opening.{opened_after, LoadsAs}
 
 -- where none of 1 to 6 holds, loading gives what the text does

@@ -7,7 +7,7 @@ const PLACES: usize = 676;
 
 const POOL: usize = 2948;
 
-// A part of a lent area: which area, where it begins and how long it is.
+// A part of a lent area: which area, a number for C, where it begins and how long it is.
 #[repr(C)]
 #[derive(Clone, Copy)]
 pub struct Part {
@@ -34,18 +34,17 @@ pub fn leveecrumb_last_file(start: &[u8], store: &[u8], number: u8) -> Part
         };
     }
     let path = fields::path(store, number);
-    let size = path.len();
-    if size == 0 {
+    if path.is_empty() {
         return Part {
             stored: Part::OF_STORE,
             from: 0,
             size: 0,
         };
     }
-    let place = fields::word(store, PLACES + 3 * (number as usize));
+    let place = fields::word(store, PLACES + 3 * usize::from(number));
     Part {
         stored: Part::OF_STORE,
-        from: POOL + (place as usize),
-        size,
+        from: POOL + usize::from(place),
+        size: path.len(),
     }
 }

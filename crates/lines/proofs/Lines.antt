@@ -5,27 +5,49 @@ use mathlib.Core.Bool.{Bool, true, false, cond}
 use mathlib.Core.List.{List, [], ◌∷◌}
 use Prim.Native.Nat.{ℕ, suc, ◌+◌, ◌≤◌, ◌<◌}
 use native.Mathlib.Nat.{not-suc-le-zero}
-use native.Mathlib.Numerals.{add-one}
 use native.Mathlib.Omega.{arith}
-use borrow.Author.Tests.{eq-eqb, ne_eqb}
-use lib.Dec.{eqb}
-use lib.ListN.{length, get_or, take, drop, length-drop, drop_of_length-le}
-use lib.Seq.{drop-cons, drop-drop, length-take-le}
+use borrow.Author.Tests.{lt-ltb}
+use lib.Dec.{eqb, ltb}
+use Rattle.std.proofs.Common.{not, position, Some, None}
+use Rattle.std.specs.List.{position_or_len}
+use Rattle.std.proofs.lemmas.Bool.Decides.{nat_tests}
+use lib.ListN.{length, take, drop, length-drop, drop_of_length-le}
+use lib.Seq.{drop-drop, length-take-le}
 use Rattle.lines.specs.Line.{line_length, first_line, lines_of, prepend}
 
--- the byte at i decides
-module _ (s : List ℕ) (i : ℕ) where
-  pub line_hit : i < length s → get_or s i 0 ≡ 10 → line_length (drop i s) ≡ 1
-  unfolding line_length
-  line_hit h e = rw (drop-cons s i 0 h) (simp (eq-eqb (get_or s i 0) 10 e))
+-- ---- the first LF ends the line
 
-  pub line_miss : i < length s → (get_or s i 0 ≡ 10 → ⊥) → line_length (drop i s) ≡ suc (line_length (drop (i + 1) s))
-  unfolding line_length
-  line_miss h n = rw (drop-cons s i 0 h, add-one) (simp (ne_eqb (get_or s i 0) 10 n))
+abbrev is_lf : ℕ → Bool
+is_lf b = eqb b 10
 
-  pub line-end : length s ≤ i → line_length (drop i s) ≡ 0
-  unfolding line_length
-  line-end h = rw (drop_of_length-le s {i = i} h)
+-- the line that begins with a byte more
+longer : (n m r : ℕ) → r ≡ cond (ltb n m) (suc n) m → suc r ≡ cond (ltb (1 + n) (suc m)) (suc (1 + n)) (suc m)
+longer n m r e = grind (arith, nat_tests)
+
+line_by_place : (s : List ℕ) → line_length s ≡ cond (ltb (position_or_len is_lf s) (length s)) (suc (position_or_len is_lf s)) (length s)
+unfolding line_length
+line_by_place [] = refl
+line_by_place (b ∷ s) = go (eqb b 10) (line_by_place s)
+  where
+    go : (t : Bool) → line_length s ≡ cond (ltb (position_or_len is_lf s) (length s)) (suc (position_or_len is_lf s)) (length s) →
+        cond t 1 (suc (line_length s)) ≡ cond (ltb (cond (not t) (1 + position_or_len is_lf s) 0) (suc (length s))) (suc (cond (not t) (1 + position_or_len is_lf s) 0)) (suc (length s))
+    go true e = simp (lt-ltb 0 (suc (length s)) (omega arith))
+    go false e = longer (position_or_len is_lf s) (length s) (line_length s) e
+
+module _ (s : List ℕ) where
+  pub line_at : (i : ℕ) → position is_lf s ≡ Some i → i + 1 ≡ line_length s
+  line_at i e = rw line_by_place (go (ltb (position_or_len is_lf s) (length s)) e)
+    where
+      go : (t : Bool) → cond t (Some (position_or_len is_lf s)) None ≡ Some i → i + 1 ≡ cond t (suc (position_or_len is_lf s)) (length s)
+      go true e = let is : i ≡ position_or_len is_lf s = cc in omega arith
+      go false e = cc
+
+  pub line_whole : position is_lf s ≡ None → length s ≡ line_length s
+  line_whole e = rw line_by_place (go (ltb (position_or_len is_lf s) (length s)) e)
+    where
+      go : (t : Bool) → cond t (Some (position_or_len is_lf s)) None ≡ None → length s ≡ cond t (suc (position_or_len is_lf s)) (length s)
+      go true e = cc
+      go false e = refl
 
 -- the first line, and the lines of the rest
 pub lines_cons : (s : List ℕ) → 0 < length s → lines_of s ≡ first_line s ∷ lines_of (drop (line_length s) s)

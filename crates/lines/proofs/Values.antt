@@ -7,7 +7,9 @@ use Prim.Native.Nat.{ℕ, ◌+◌, ◌*◌, ◌≤◌, ◌<◌}
 use native.Mathlib.Decide.{dec_lt}
 use native.Mathlib.Omega.{arith}
 use borrow.Author.Tests.{le-ltb, lt-ltb, le-leb, lt-leb}
-use lib.Dec.{ltb}
+use lib.Dec.{ltb, leb}
+use Rattle.std.proofs.Common.{Option, Some, None, Result, Ok, Err}
+use Rattle.std.specs.Result.{OkIff, result_ok}
 use lib.ListN.{length, get_or, set}
 use lib.Seq.{get_or-set_same, get_or-set_other}
 use Rattle.lines.specs.Line.{hex_value, pair_value, Digits, digit_of}
@@ -88,17 +90,36 @@ value_most values made b h = rw (made.is b h) (go (dec_lt (hex_value b) 16))
     go (no n) = simp (le-ltb (hex_value b) 16 (omega arith)) (omega arith)
 
 -- the sum of a pair's values decides
-pub pair-sum : (a b v : ℕ) → v ≡ value_below 16 a * 16 + value_below 16 b → (255 < v → 256 ≡ pair_value a b) × (v ≤ 255 → v ≡ pair_value a b)
+pub pair_sum : (a b v : ℕ) → v ≡ value_below 16 a * 16 + value_below 16 b → cond (leb v 255) (Some v) None ≡ cond (leb (pair_value a b) 255) (Some (pair_value a b)) None
 unfolding pair_value
-pair-sum a b v e = go (dec_lt (hex_value a) 16) (dec_lt (hex_value b) 16)
+pair_sum a b v e = go (dec_lt (hex_value a) 16) (dec_lt (hex_value b) 16)
   where
-    go : Dec (hex_value a < 16) → Dec (hex_value b < 16) → (255 < v → 256 ≡ pair_value a b) × (v ≤ 255 → v ≡ pair_value a b)
+    go : Dec (hex_value a < 16) → Dec (hex_value b < 16) → cond (leb v 255) (Some v) None ≡ cond (leb (pair_value a b) 255) (Some (pair_value a b)) None
     go (yes p) (yes q) =
         let sum : v ≡ hex_value a * 16 + hex_value b = simp (lt-ltb _ _ p, lt-ltb _ _ q) at e in
-        (λ l. absurd (omega arith), λ s. simp (le-ltb 15 (hex_value a) (omega arith), le-ltb 15 (hex_value b) (omega arith)) sum)
+        simp (le-ltb 15 (hex_value a) (omega arith), le-ltb 15 (hex_value b) (omega arith), sum)
     go (yes p) (no m) =
         let sum : v ≡ hex_value a * 16 + 256 = simp (lt-ltb _ _ p, le-ltb (hex_value b) 16 (omega arith)) at e in
-        (λ l. simp (le-ltb 15 (hex_value a) (omega arith), lt-ltb 15 (hex_value b) (omega arith)), λ s. absurd (omega arith))
+        simp (lt-leb v 255 (omega arith), le-ltb 15 (hex_value a) (omega arith), lt-ltb 15 (hex_value b) (omega arith))
     go (no n) q =
         let sum : v ≡ 4096 + value_below 16 b = simp (le-ltb (hex_value a) 16 (omega arith)) at e in
-        (λ l. simp (lt-ltb 15 (hex_value a) (omega arith)), λ s. absurd (omega arith))
+        simp (lt-leb v 255 (omega arith), lt-ltb 15 (hex_value a) (omega arith))
+
+-- a number as a byte, where it is one
+pub byte_or_none : {E : Type 0} (r : Result ℕ E) (v : ℕ) → OkIff r (v < 256) v → result_ok r ≡ cond (leb v 255) (Some v) None
+byte_or_none (Ok x) v h = simp (h.1, le-leb v 255 (omega (arith, h.0)))
+byte_or_none (Err e) v h = simp (lt-leb v 255 (omega (arith, h)))
+
+pub some_byte : {x : ℕ} (v : ℕ) → Some x ≡ cond (leb v 255) (Some v) None → (x ≡ v) × (v ≤ 255)
+some_byte {x} v = go (dec_lt 255 v)
+  where
+    go : Dec (255 < v) → Some x ≡ cond (leb v 255) (Some v) None → (x ≡ v) × (v ≤ 255)
+    go (yes p) e = let n : Some x ≡ None = simp (lt-leb v 255 p) at e in cc
+    go (no p) e = let s : Some x ≡ Some v = simp (le-leb v 255 (omega arith)) at e in (cc, omega arith)
+
+pub no_byte : (v : ℕ) → ◌≡◌ {A = Option ℕ} None (cond (leb v 255) (Some v) None) → 255 < v
+no_byte v = go (dec_lt 255 v)
+  where
+    go : Dec (255 < v) → ◌≡◌ {A = Option ℕ} None (cond (leb v 255) (Some v) None) → 255 < v
+    go (yes p) e = p
+    go (no p) e = let s : ◌≡◌ {A = Option ℕ} None (Some v) = simp (le-leb v 255 (omega arith)) at e in cc

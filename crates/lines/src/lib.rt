@@ -3,15 +3,16 @@
 // `line_of` and `encoded`; and what these name.
 #![tactic(auto)]
 
-ghost use Rattle.std.specs.Prelude.{◌≡◌, cond, [], ◌<◌, min, eqb, length, get_or};
+ghost use Rattle.std.specs.Prelude.{◌≡◌, cond, [], ◌*◌, ◌<◌, ◌≤◌, eqb, leb, get_or};
 ghost use Rattle.lines.specs.Line.{Digits, pair_value, line_length, first_line, zeros, frame_of, decoded, DecodedInto, digit_of, EncodedAs};
 
-const LF: u8 = 10;
+const LF: u8 = b'\n';
 
 // The longest good line, with its LF.
 const LONGEST: usize = 161;
 
-// The bytes of a good line, zero filled, and how many they are; size 0 for any other line.
+// The bytes of a good line, zero filled, and how many they are; size 0 for any other line: a number and no `Option`, since `decoded` and
+// `frame_of` of specs/Line.antt have it, and with them the theorems on lines.
 #[derive(Clone, Copy)]
 pub struct Frame {
     pub size: usize,
@@ -25,48 +26,42 @@ fn digit(value: u8) -> u8
     ensures { result ≡ digit_of value }
 {
     if value < 10 {
-        return value + 48;
+        value + b'0'
+    } else {
+        value - 10 + b'a'
     }
-    value + 87
 }
 
 // For each byte its value as a digit, or 256 for one that is no digit. Made once for a text: which digit comes next cannot be foreseen,
-// so that a test of each would cost more than the rest of the decoding.
+// so that a test of each would cost more than the rest of the decoding. A table as it stands, 256 and all: `Digits` says what it holds, and
+// `decode_first` asks for that and no more.
 pub fn digits() -> [u16; 256]
     ensures { Digits result }
 {
     let mut values = [256; 256];
     for v in 0..16 {
-        let b = digit(v);
-        values[b as usize] = v as u16;
+        values[usize::from(digit(v))] = u16::from(v);
     }
     values
 }
 
-// The byte that two digits stand for, or 256 where one of them is no digit.
-fn pair_value(values: &[u16; 256], a: u8, b: u8) -> u16
+// The byte that two digits stand for, or none where one of them is no digit.
+fn pair_value(values: &[u16; 256], a: u8, b: u8) -> Option<u8>
     requires { Digits values.now }
-    ensures { result ≡ pair_value a b }
+    ensures { result ≡ cond (leb (pair_value a b) 255) (Some (pair_value a b)) None }
 {
-    let value = values[a as usize] * 16 + values[b as usize];
-    if 255 < value {
-        return 256;
-    }
-    value
+    let value = values[usize::from(a)] * 16 + values[usize::from(b)];
+    u8::try_from(value).ok()
 }
 
 // The length of the first line of a text, with its LF where it has one.
 pub fn line_length(text: &[u8]) -> usize
     ensures { result ≡ line_length text.now }
 {
-    let mut i = 0;
-    while i < text.len() {
-        if text[i] == LF {
-            return i + 1;
-        }
-        i += 1;
+    match text.iter().position(|b| *b == LF) {
+        Some(i) => i + 1,
+        None => text.len(),
     }
-    i
 }
 
 // The frame of a line that is not good.
@@ -80,48 +75,28 @@ fn empty() -> Frame
     }
 }
 
-// How far the first line of a text can be good: to the text's end, or as far as the longest good line goes.
-fn reach(text: &[u8]) -> usize
-    ensures { result ≡ min (length text.now) LONGEST }
+// What a line gives whose digits end after i bytes: i where LF stands there, else 0.
+fn ends(text: &[u8], i: usize) -> usize
+    requires { i ≤ 80 }
+    ensures { result ≡ cond (eqb (get_or text.now (2 * i) 0) 10) i 0 }
 {
-    if text.len() < LONGEST {
-        return text.len();
-    }
-    LONGEST
+    if text.get(2 * i) == Some(&LF) { i } else { 0 }
 }
 
-// What a line gives whose digits end at k, after i bytes: i where LF stands there, else 0.
-fn ends(text: &[u8], k: usize, i: usize) -> usize
-    ensures { result ≡ cond (eqb (get_or text.now k 0) 10) i 0 }
-{
-    if text.len() <= k {
-        return 0;
-    }
-    if text[k] != LF {
-        return 0;
-    }
-    i
-}
-
-// Writes the bytes of a text's first line in front of bytes 0: how many they are, 0 where that line is not good.
+// Writes the bytes of a text's first line in front of bytes 0: how many they are, 0 where that line is not good, as `DecodedInto` says.
 // No LF is sought: the digits end at it, as it is no digit.
 pub fn decode_first(text: &[u8], values: &[u16; 256], bytes: &mut [u8; 80]) -> usize
     requires { Digits values.now × (bytes.old ≡ zeros 80) }
     ensures { DecodedInto (first_line text.now) result bytes.new }
 {
-    let most = reach(text);
-    let mut i = 0;
-    let mut k = 0;
-    while k + 1 < most {
-        let value = pair_value(values, text[k], text[k + 1]);
-        if 255 < value {
-            return ends(text, k, i);
-        }
-        bytes[i] = value as u8;
-        i += 1;
-        k += 2;
+    let most = text.len().min(LONGEST);
+    for i in 0..most / 2 {
+        let Some(value) = pair_value(values, text[2 * i], text[2 * i + 1]) else {
+            return ends(text, i);
+        };
+        bytes[i] = value;
     }
-    ends(text, k, i)
+    ends(text, most / 2)
 }
 
 // The frame of a text's first line; size 0 where that line is not good.
@@ -138,7 +113,7 @@ pub fn decode(text: &[u8]) -> Frame
     Frame { size, bytes }
 }
 
-// Writes the line of `bytes` in front of `room`: the line's length, or 0 where it does not fit.
+// Writes the line of `bytes` in front of `room`: the line's length, or 0 where it does not fit, as `EncodedAs` says.
 pub fn encode(bytes: &[u8], room: &mut [u8]) -> usize
     ensures { EncodedAs bytes.now room.old result room.new }
 {
@@ -146,15 +121,10 @@ pub fn encode(bytes: &[u8], room: &mut [u8]) -> usize
     if room.len() < size {
         return 0;
     }
-    let mut i = 0;
-    let mut k = 0;
-    while i < bytes.len() {
-        let b = bytes[i];
-        room[k] = digit(b / 16);
-        room[k + 1] = digit(b % 16);
-        i += 1;
-        k += 2;
+    for (i, b) in bytes.iter().enumerate() {
+        room[2 * i] = digit(b / 16);
+        room[2 * i + 1] = digit(b % 16);
     }
-    room[k] = LF;
+    room[2 * bytes.len()] = LF;
     size
 }

@@ -4,6 +4,7 @@
 
 ghost use Rattle.std.specs.Prelude.{◌≤◌};
 
+use gran::Asked;
 use std::io::{self, Write};
 
 // Areas of which no content matters.
@@ -29,17 +30,14 @@ fn show<W: Write>(
 ) -> io::Result<()> {
     let mut store = fresh_store();
     let mut work = fresh_work();
-    let answer = leveecrumb::ask(
-        text,
-        &mut store,
-        &mut work,
-        room,
+    let asked = Asked {
         uid,
-        100,
-        b"/",
-        b"/etc/ntp/",
+        gid: 100,
+        start: b"/",
+        target: b"/etc/ntp/",
         kind,
-    );
+    };
+    let answer = leveecrumb::ask(text, &mut store, &mut work, room, asked);
     let size = question::tell(answer, room);
     if size <= room.len() {
         printed.write_all(&room[..size])?;

@@ -20,6 +20,11 @@ use Rattle.policy.proofs.Refusals.{taken}
 use Rattle.policy.proofs.Loads.{sound_line}
 use Rattle.policy.proofs.Room.{roomy, text_line}
 use Rattle.judge.specs.Noted.{Noted}
+use Rattle.std.specs.Prelude.{Ok, Err}
+use Rattle.policy.specs.Refused.{refusal_number}
+use Rattle.policy.specs.declared.refusal.Refusal.{Refusal}
+use Rattle.policy.specs.declared.refusal.Refusal.TheVariants.{BadLine}
+use Rattle.load.specs.declared.Step.{Step}
 use Rattle.load.specs.Step.{Ready, FrameAdded, Lies, CanRead, LineRead}
 use Rattle.load.proofs.Room.{ready}
 
@@ -32,22 +37,12 @@ line_good : (s : Load) (line : List ℕ) → ((decoded line).size ≡ 0 → ⊥)
 unfolding refusal_of
 line_good s line n = rw (ne_eqb _ _ n)
 
-pub refused-7 : (t : Tally) (last lines : ℕ) (text before marks : List ℕ) → (decoded (first_line text)).size ≡ 0 → LineRead t last lines text before marks 7 0 last t before marks
-refused-7 t last lines text before marks z = record {
-  span = λ e. absurd (omega arith);
-  kept = refl;
-  lowest = λ s rest l. sym (line_bad s (first_line text) z);
-  bounded = λ e. absurd (omega arith);
-  lies = λ e. absurd (omega arith);
-  same = λ n. refl;
-}
+pub refused-7 : (t : Tally) (last lines : ℕ) (text before marks : List ℕ) → (decoded (first_line text)).size ≡ 0 → LineRead t last lines text before marks (Err BadLine) before marks
+refused-7 t last lines text before marks z = record { kept = refl; lowest = λ s rest l. sym (line_bad s (first_line text) z); passed = tt; same = refl }
 
 module _ (text : List ℕ) (frame : Frame) (framed : frame ≡ decoded (first_line text)) (some : frame.size ≡ 0 → ⊥) where
   frame-whole : Framed (first_line text) frame
   frame-whole = size_good (first_line text) frame framed some
-
-  pub frame_long : length frame.bytes ≡ 80
-  frame_long = frame-whole.long
 
   pub frame_sized : (1 ≤ frame.size) × (frame.size ≤ length frame.bytes)
   frame_sized = (omega (arith, frame-whole.size, frame-whole.sized.some), omega (arith, frame-whole.size, frame-whole.sized.most, frame-whole.long))
@@ -60,15 +55,8 @@ module _ (text : List ℕ) (frame : Frame) (framed : frame ≡ decoded (first_li
     lowest : (s : Load) (rest : List ℕ) → Lies s rest t last lines before marks → number ≡ refusal_of s (first_line text)
     lowest s rest l = rw (l.last_is, l.lines_is, framed) at (judged s.policy rest l.sound.policy l.held l.noted) ∙ sym (line_good s (first_line text) (rw framed at some))
 
-    pub refused-by : (number ≡ 0 → ⊥) → LineRead t last lines text before marks number 0 last t before marks
-    refused-by n = record {
-      span = λ e. absurd (n e);
-      kept = refl;
-      lowest = lowest;
-      bounded = λ e. absurd (n e);
-      lies = λ e. absurd (n e);
-      same = λ m. refl;
-    }
+    pub refused-by : (r : Refusal) → refusal_number r ≡ number → LineRead t last lines text before marks (Err r) before marks
+    refused-by r e = record { kept = refl; lowest = λ s rest l. e ∙ lowest s rest l; passed = tt; same = refl }
 
     module _ (passes : number ≡ 0) where
       zero_at : (s : Load) (rest : List ℕ) → Lies s rest t last lines before marks → refusal_of s (first_line text) ≡ 0
@@ -85,23 +73,25 @@ module _ (text : List ℕ) (frame : Frame) (framed : frame ≡ decoded (first_li
           roomy _ grown.policy (omega (arith, text_line s (first_line text) z, first-length text, line_within text, can.short)) in
           rw framed (ready s (decoded (first_line text)) can.lies.sound k.bytes k.passed room can.rest t before can.lies.held can.bounded (rw framed at frame_sized.0) (rw framed at frame_sized.1))
 
-      pub line_added : CanRead t last lines text before marks → (type : ℕ) → type ≡ byte_at frame 0 → (next : Tally) (left noted : List ℕ) → FrameAdded frame t before next left
-          → ((P : Policy) → Noted P marks → Noted (add P frame) noted) → LineRead t last lines text before marks 0 (2 * frame.size + 1) type next left noted
+      pub line_added : CanRead t last lines text before marks → (step : Step) → step.size ≡ 2 * frame.size + 1 → step.last ≡ byte_at frame 0 → (left noted : List ℕ) → FrameAdded frame t before step.tally left
+          → ((P : Policy) → Noted P marks → Noted (add P frame) noted) → LineRead t last lines text before marks (Ok step) left noted
       unfolding after
-      line_added can type is next left noted a notes = record {
-        span = λ e. frame_span;
+      line_added can step long is left noted a notes = record {
         kept = a.kept;
         lowest = λ s rest l. sym (zero_at s rest l);
-        bounded = λ e. rw a.tally (can-add can).bounded;
-        lies = λ e s rest l.
-            let z = zero_at s rest l in
-            let k = taken s (first_line text) z in
-            record {
-              held = (rw framed at a.held) s rest l.sound k.bytes (sym (line_good s (first_line text) (rw framed at some)) ∙ z) l.held;
-              noted = (rw framed at notes) s.policy l.noted;
-              sound = sound_line s (first_line text) l.sound z;
-              last_is = is ∙ rw framed;
-              lines_is = rw l.lines_is;
-            };
-        same = λ n. absurd (n refl);
+        passed = record {
+          span = long ∙ frame_span;
+          bounded = rw a.tally (can-add can).bounded;
+          lies = λ s rest l.
+              let z = zero_at s rest l in
+              let k = taken s (first_line text) z in
+              record {
+                held = (rw framed at a.held) s rest l.sound k.bytes (sym (line_good s (first_line text) (rw framed at some)) ∙ z) l.held;
+                noted = (rw framed at notes) s.policy l.noted;
+                sound = sound_line s (first_line text) l.sound z;
+                last_is = is ∙ rw framed;
+                lines_is = rw l.lines_is;
+              };
+        };
+        same = tt;
       }

@@ -19,7 +19,10 @@ use Rattle.store.specs.declared.Tally.{Tally}
 use Rattle.store.specs.Layout.{layout}
 use Rattle.policy.specs.Load.{unrooted, refused, accepted, finish, reading, Outcome, unchanged, settled, outcome, LoadedAs}
 use Rattle.ending.specs.End.{end_refusal}
-use Rattle.load.specs.Step.{Cleared, AllPassed}
+use Rattle.std.specs.Prelude.{true, ⊤, Result, Ok, Err, is_err}
+use Rattle.policy.specs.Refused.{refused_number, refused_line}
+use Rattle.policy.specs.declared.refusal.Refused.{Refused}
+use Rattle.load.specs.Step.{Cleared, AllPassed, Filled}
 
 module _ (text store : List ℕ) where
   loaded_as : (o : Outcome) → outcome text store ≡ o → LoadedAs text store o.number o.line o.bytes
@@ -88,3 +91,23 @@ module _ (text rest : List ℕ) (t : Tally) (bytes : List ℕ) (all : AllPassed 
       go (inl u) v = let is : number ≡ 15 = e ∙ rw u in (λ z. absurd (omega arith), λ n. ends ∙ rw (u, is))
       go (inr u) (inl v) = let is : number ≡ 16 = e ∙ rw (u, v) in (λ z. absurd (omega arith), λ n. ends ∙ rw (u, v, is))
       go (inr u) (inr v) = let is : number ≡ 0 = e ∙ rw (u, v) in (λ z. ends ∙ rw (u, v), λ n. absurd (n is))
+
+-- ---- cleared, filled, and cleared again where it was refused
+
+module _ (text store : List ℕ) (short : length text ≤ 32768) (room : 16384 ≤ length store) (part left : List ℕ) (e : part ≡ zeros (length (take 16384 store))) (read : Result ⊤ Refused) (f : Filled text (part ++ drop 16384 store) read left) where
+  pub filled_room : 16384 ≤ length left
+  filled_room = room_kept (f.kept ∙ cleared-length part store room e) room
+
+  pub filled-refused : is_err read ≡ true → (again : List ℕ) → again ≡ zeros (length (take 16384 left)) → LoadedAs text store (refused_number read) (refused_line read) (again ++ drop 16384 left)
+  filled-refused n again z = go read f n
+    where
+      go : (r : Result ⊤ Refused) → Filled text (part ++ drop 16384 store) r left → is_err r ≡ true → LoadedAs text store (refused_number r) (refused_line r) (again ++ drop 16384 left)
+      go (Ok x) g n = cc
+      go (Err r) g n = loaded-refused text store short room _ _ _ g.stopped (cleared-again part store again left room e filled_room g.past z)
+
+  pub filled-whole : is_err read ≡ false → LoadedAs text store (refused_number read) (refused_line read) left
+  filled-whole n = go read f n
+    where
+      go : (r : Result ⊤ Refused) → Filled text (part ++ drop 16384 store) r left → is_err r ≡ false → LoadedAs text store (refused_number r) (refused_line r) left
+      go (Ok x) g n = let P = g.whole.0 in loaded-whole text store short room P left g.whole.1 (g.whole.2 ∙ ap (λ (l : List ℕ). layout P ++ l) (cleared_past part store room e))
+      go (Err r) g n = cc

@@ -1,14 +1,20 @@
 -- The steps of a load: a frame added, a line read, all lines read. No caller of `load` has to believe it: `LoadedAs` says what comes back.
 -- Assumes nothing.
-use Rattle.std.specs.Prelude.{◌≡◌, cond, List, ◌++◌, ℕ, ◌+◌, ◌≤◌, ◌<◌, length, drop}
+use Rattle.std.specs.Prelude.{◌≡◌, ⊤, cond, List, ◌++◌, ℕ, ◌+◌, ◌≤◌, ◌<◌, length, drop, Result, IfOk, IfErr, OnOk, OnErr}
 use Rattle.lines.specs.declared.Frame.{Frame}
 use Rattle.lines.specs.Line.{Bytes, zeros, line_length, first_line, lines_of, decoded}
+use Rattle.gran.specs.Policy.{Policy}
 use Rattle.store.specs.declared.Tally.{Tally}
+use Rattle.store.specs.Layout.{layout}
 use Rattle.store.specs.Held.{Bounded, Holds, role_tally, path_tally, move_tally, entry_tally, object_tally, uid_tally, gid_tally}
 use Rattle.policy.specs.Frames.{byte_at, type_of, is_type, path_from}
-use Rattle.policy.specs.Load.{Load, start, add, after, frame_refusal, refusal_of, going, run, refused, reading}
+use Rattle.policy.specs.declared.refusal.Refusal.{Refusal}
+use Rattle.policy.specs.declared.refusal.Refused.{Refused}
+use Rattle.policy.specs.Refused.{refusal_number, number_in}
+use Rattle.policy.specs.Load.{Load, start, add, after, frame_refusal, refusal_of, going, run, refused, accepted, reading}
 use Rattle.policy.specs.Sound.{Sound, least_text}
 use Rattle.judge.specs.Noted.{Noted}
+use Rattle.load.specs.declared.Step.{Step}
 
 -- ---- one frame
 
@@ -54,14 +60,18 @@ pub record CanRead (t : Tally) (last lines : ℕ) (text bytes marks : List ℕ) 
   pub bounded : Bounded t
   pub short : least_text load.policy + length text ≤ 32768
 
--- The first line was read: its refusal; without one its length, and the load after it lies there; with one nothing changed.
-pub record LineRead (t : Tally) (last lines : ℕ) (text before marks : List ℕ) (number size type : ℕ) (next : Tally) (left noted : List ℕ) : Type 0 where
-  pub span : number ≡ 0 → size ≡ line_length text
+-- The first line passed: its length, and the load after it lies there.
+pub record LinePassed (t : Tally) (last lines : ℕ) (text before marks : List ℕ) (step : Step) (left noted : List ℕ) : Type 0 where
+  pub span : step.size ≡ line_length text
+  pub bounded : Bounded step.tally
+  pub lies : (s : Load) (rest : List ℕ) → Lies s rest t last lines before marks → Lies (after s (decoded (first_line text))) rest step.tally step.last (lines + 1) left noted
+
+-- The first line was read: it passed, or its refusal, with which nothing changed.
+pub record LineRead (t : Tally) (last lines : ℕ) (text before marks : List ℕ) (read : Result Step Refusal) (left noted : List ℕ) : Type 0 where
   pub kept : length left ≡ length before
-  pub lowest : (s : Load) (rest : List ℕ) → Lies s rest t last lines before marks → number ≡ refusal_of s (first_line text)
-  pub bounded : number ≡ 0 → Bounded next
-  pub lies : number ≡ 0 → (s : Load) (rest : List ℕ) → Lies s rest t last lines before marks → Lies (after s (decoded (first_line text))) rest next type (lines + 1) left noted
-  pub same : (number ≡ 0 → ⊥) → left ≡ before
+  pub lowest : (s : Load) (rest : List ℕ) → Lies s rest t last lines before marks → number_in read ≡ refusal_of s (first_line text)
+  pub passed : IfOk read (λ step. LinePassed t last lines text before marks step left noted)
+  pub same : OnErr read (left ≡ before)
 
 -- ---- all lines
 
@@ -78,9 +88,16 @@ pub record AllPassed (text rest : List ℕ) (t : Tally) (bytes : List ℕ) : Typ
   pub ended : load.last ≡ 0x7f
   pub passed : run (going start) (lines_of text) ≡ going load
 
--- All lines were read: the first refusal and its line, or 14; otherwise all passed. What lies past the first 16,384 bytes is kept.
-pub record LinesRead (text before : List ℕ) (number line : ℕ) (t : Tally) (left : List ℕ) : Type 0 where
+-- All lines were read: all passed, or the first refusal and its line, or 14. What lies past the first 16,384 bytes is kept.
+pub record LinesRead (text before : List ℕ) (read : Result Tally Refused) (left : List ℕ) : Type 0 where
   pub kept : length left ≡ length before
   pub past : drop 16384 left ≡ drop 16384 before
-  pub stopped : (number ≡ 0 → ⊥) → reading text ≡ refused number line
-  pub whole : number ≡ 0 → AllPassed text (drop 16384 before) t left
+  pub whole : IfOk read (λ t. AllPassed text (drop 16384 before) t left)
+  pub stopped : IfErr read (λ r. reading text ≡ refused (refusal_number r.refusal) r.line)
+
+-- All lines were read, and what is tested after them: the policy's layout; or a refusal and its line, with which what lies past the first 16,384 bytes is kept.
+pub record Filled (text before : List ℕ) (read : Result ⊤ Refused) (left : List ℕ) : Type 0 where
+  pub kept : length left ≡ length before
+  pub past : OnErr read (drop 16384 left ≡ drop 16384 before)
+  pub whole : OnOk read ((P : Policy) × (reading text ≡ accepted P) × (left ≡ layout P ++ drop 16384 before))
+  pub stopped : IfErr read (λ r. reading text ≡ refused (refusal_number r.refusal) r.line)

@@ -2,36 +2,30 @@
 // The texts are a row of `cases`.
 #![tactic(auto)]
 
-use cases::Found;
 use std::io::{self, Write};
 
 const MOST: usize = 131072;
 
 // Loads one text and writes what came back.
 fn report<W: Write>(text: &[u8], store: &mut [u8], printed: &mut W) -> io::Result<()> {
-    let loaded = load::load(text, store);
-    let line = loaded.line;
-    let bytes = [
-        0x8f,
-        loaded.number,
-        (line / 256 % 256) as u8,
-        (line % 256) as u8,
-    ];
+    let (number, line) = match load::load(text, store) {
+        Ok(()) => (0, 0),
+        Err(refused) => (refused.refusal.number(), refused.line),
+    };
+    let [high, low] = ((line % 65536) as u16).to_be_bytes();
     let mut room = [0u8; 9];
-    lines::encode(&bytes, &mut room);
+    lines::encode(&[0x8f, number, high, low], &mut room);
     printed.write_all(&room)
 }
 
 #[tactic(auto, using(cases::proofs::Inside::case_inside))]
 fn report_all<W: Write>(input: &[u8], store: &mut [u8], printed: &mut W) -> io::Result<()> {
     let mut at = 0;
-    loop {
-        let Found::Case(from, end) = cases::next(input, at) else {
-            return Ok(());
-        };
+    while let Some((from, end)) = cases::next(input, at) {
         report(&input[from..end], store, printed)?;
         at = end;
     }
+    Ok(())
 }
 
 fn main(rt: HostRuntime) -> io::Result<()> {

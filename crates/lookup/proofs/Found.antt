@@ -22,9 +22,8 @@ use Rattle.fields.specs.Fields.{entry_count, entry_subject, first_object, object
 use Rattle.fields.proofs.Header.{entry-count}
 use Rattle.fields.proofs.Paths.{path_read}
 use Rattle.fields.proofs.Entries.{entry-subject, entry-role, object-count, object-path, object-modes}
-use Rattle.lookup.specs.Best.{best_of, grade_in, grade_at}
+use Rattle.lookup.specs.Best.{best_of, grade_in, role_grade, object_grade}
 use Rattle.lookup.specs.Lookup.{grade_of, Graded, entry_at, InForce, Placed}
-use Rattle.lookup.specs.declared.Row.TheVariants.{OfRole, Objects}
 use Rattle.lookup.proofs.Search.{always, only_all}
 use Rattle.lookup.proofs.Picked.{picked}
 use Rattle.lookup.proofs.Matches.{no_object, good-entry, entry_picked, object_picked, placed_path, placed_modes}
@@ -49,22 +48,22 @@ module _ {P : Policy} {rest s : List ℕ} (L : Loaded P rest s) (f : List ℕ) w
     subject_grade e l = rw (entry-subject L e l) (graded _ (subject-named e l))
 
     module _ (r : ℕ) (known : r < length P.roles) where
-      role-grade : (e : ℕ) → e < length P.entries → grade_at s of (OfRole r) e ≡ cond (of_role r (entry_at P e)) (grade_of P f (entry_at P e).subject) 0
-      unfolding grade_at
+      role-grade : (e : ℕ) → e < length P.entries → role_grade s of r e ≡ cond (of_role r (entry_at P e)) (grade_of P f (entry_at P e).subject) 0
+      unfolding role_grade
       role-grade e l = rw (entry-role L e l, subject_grade e l)
 
-      pub entry_found : InForce P r f (best_of (grade_at s of (OfRole r)) (entry_count s)).place
+      pub entry_found : InForce P r f (best_of (role_grade s of r) (entry_count s)).place
       unfolding subjects_of
       entry_found =
           rw (entry-count L) (entry_picked P L.good f r _
-          (picked P L.good f (of_role r) subject_path no_entry P.entries (role_rooted P L.good r known) (grade_at s of (OfRole r)) role-grade))
+          (picked P L.good f (of_role r) subject_path no_entry P.entries (role_rooted P L.good r known) (role_grade s of r) role-grade))
 
     module _ (e : ℕ) (known : e < length P.entries) where
-      pub object_found : Placed P e f (best_of (grade_at s of (Objects (first_object s e))) (object_count s e)).place
-      unfolding grade_at objects_of
+      pub object_found : Placed P e f (best_of (object_grade s of (first_object s e)) (object_count s e)).place
+      unfolding object_grade objects_of
       object_found =
           rw (object-count L e known) (object_picked P L.good f e known _
-          (picked P L.good f always object_path no_object objects (rw (only_all objects) (entry_rooted P L.good (entry_at P e) (good-entry P L.good e known))) (grade_at s of (Objects (first_object s e)))
+          (picked P L.good f always object_path no_object objects (rw (only_all objects) (entry_rooted P L.good (entry_at P e) (good-entry P L.good e known))) (object_grade s of (first_object s e))
           (λ i l. rw (object-path L e known i no_object l) (graded _ (named i l)))))
         where
           objects : List Object

@@ -9,8 +9,8 @@ use native.Mathlib.Numerals.{add-one}
 use native.Mathlib.Omega.{arith}
 use borrow.Author.Tests.{le-ltb, ne_eqb}
 use lib.Dec.{eqb, ltb}
-use lib.ListN.{length, get_or, set}
-use lib.Seq.{get_or-set_other, get_or-take, get_or-drop}
+use lib.ListN.{length, get_or}
+use lib.Seq.{get_or-take, get_or-drop}
 use Rattle.paths.proofs.Bools.{eqb_of}
 use Rattle.gran.specs.Lists.{none, only, member}
 use Rattle.gran.specs.Policy.{Policy, Object}
@@ -29,7 +29,6 @@ use Rattle.lookup.proofs.Search.{always, only_all, listed-place, place_listed}
 use Rattle.lookup.proofs.Greatest.{Greatest, at_least, greatest, grade-under, greatest-closest}
 use Rattle.lookup.proofs.Picked.{Picked}
 use Rattle.lookup.proofs.Matches.{no_object, good-entry, entry_picked, object_picked}
-use Rattle.lookup.proofs.Found.{filled}
 use Rattle.lookup.proofs.Indexing.{Column, has_role, entry-index, object-index}
 
 -- ---- one path
@@ -51,25 +50,6 @@ pub record Passing (cells : List ℕ) (g : ℕ) (most row most' row' : List ℕ)
   pub taken : PathTaken cells g most row most' row' e
   pub grade_kept : (j : ℕ) → e ≤ j → byte_at most' j ≡ byte_at most j
   pub place_kept : (j : ℕ) → e ≤ j → byte_at row' j ≡ byte_at row j
-
-pub passing_begins : (cells : List ℕ) (g : ℕ) (most row : List ℕ) → Passing cells g most row most row 0
-passing_begins cells g most row = record {
-  taken = record { grade = λ e h. absurd (not-suc-le-zero h); place = λ e h. absurd (not-suc-le-zero h) };
-  grade_kept = λ j h. refl;
-  place_kept = λ j h. refl;
-}
-
-pub passing_more : (cells : List ℕ) (g : ℕ) (most row most' row' : List ℕ) (e a b : ℕ) → e < length most' → e < length row' → Passing cells g most row most' row' e
-    → a ≡ cond (is_better (byte_at cells e) (byte_at most' e) g) g (byte_at most' e) → b ≡ cond (is_better (byte_at cells e) (byte_at most' e) g) (byte_at cells e) (byte_at row' e)
-    → Passing cells g most row (set most' e a) (set row' e b) (e + 1)
-passing_more cells g most row most' row' e a b h l t a-is b-is = record {
-  taken = record {
-    grade = filled most' (λ (k : ℕ). cond (is_better (byte_at cells k) (byte_at most k) g) g (byte_at most k)) e a h (rw (t.grade_kept e (omega arith)) at a-is) t.taken.grade;
-    place = filled row' (λ (k : ℕ). cond (is_better (byte_at cells k) (byte_at most k) g) (byte_at cells k) (byte_at row k)) e b l (rw (t.grade_kept e (omega arith), t.place_kept e (omega arith)) at b-is) t.taken.place;
-  };
-  grade_kept = λ j m. get_or-set_other most' e j a 0 (λ d. omega (arith, d)) ∙ t.grade_kept j (omega arith);
-  place_kept = λ j m. get_or-set_other row' e j b 0 (λ d. omega (arith, d)) ∙ t.place_kept j (omega arith);
-}
 
 -- ---- all paths
 

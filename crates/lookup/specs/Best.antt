@@ -5,8 +5,6 @@ use Rattle.paths.specs.Path.{under}
 use Rattle.gran.specs.Lists.{none}
 use Rattle.fields.specs.Fields.{byte_at, path_in, entry_subject, entry_role, path_from}
 use Rattle.lookup.specs.declared.Best.{Best}
-use Rattle.lookup.specs.declared.Row.{Row}
-use Rattle.lookup.specs.declared.Row.TheVariants.{OfRole, Objects}
 
 abbrev pub no_best : Best
 no_best = record { place = none; grade = 0 }
@@ -28,7 +26,9 @@ grade_in s f c = cond (leb (length (path_in s c)) 64 && under f (path_in s c)) (
 abbrev pub grade_listed : List ℕ → List ℕ → List ℕ → ℕ → ℕ
 grade_listed s f list i = grade_in s f (byte_at list i)
 
--- The grade at a place of a row, from the grades of the paths.
-unfoldable pub grade_at : List ℕ → List ℕ → Row → ℕ → ℕ
-grade_at s of (OfRole r) i = cond (eqb (entry_role s i) r) (byte_at of (entry_subject s i)) 0
-grade_at s of (Objects n) i = byte_at of (path_from s n i)
+-- The grade of an entry's subject where that is of the role, and that of an object, from the grades of the paths.
+unfoldable pub role_grade : List ℕ → List ℕ → ℕ → ℕ → ℕ
+role_grade s of r i = cond (eqb (entry_role s i) r) (byte_at of (entry_subject s i)) 0
+
+unfoldable pub object_grade : List ℕ → List ℕ → ℕ → ℕ → ℕ
+object_grade s of n i = byte_at of (path_from s n i)

@@ -6,13 +6,14 @@ ghost use Rattle.std.specs.Prelude.{◌≡◌};
 ghost use Rattle.numbered.specs.Number.{Sized, Among, number_of, digits_of};
 
 // How steps are labelled that execute nothing: 81, 82 and 83. Below that a label is the place of the object.
+// No enum: the work area is fixed memory, and holds a label as one number.
 pub const SPECIAL_LABEL: u16 = 96;
 
 pub const USER_LABEL: u16 = 97;
 
 pub const GROUP_LABEL: u16 = 98;
 
-// How many choices each part of a state has.
+// How many choices each part of a state has. No ghost field says `Sized`: `shown::step_shown` takes any sizes, and tests them.
 #[derive(Clone, Copy)]
 pub struct Sizes {
     pub specials: usize,
@@ -21,7 +22,8 @@ pub struct Sizes {
     pub subjects: usize,
 }
 
-// The places of a state's four parts among their choices.
+// The places of a state's four parts among their choices. That they are within the tables (`Celled`) or among the choices (`Among`) is asked
+// where it counts: the digits of a number are so only with its sizes.
 #[derive(Clone, Copy)]
 pub struct Digits {
     pub special: usize,

@@ -4,7 +4,8 @@
 
 use std::io::{self, Write};
 
-// Three question lines of 161 bytes, the longest good ones, and one byte more than the longest text.
+// Three question lines of 161 bytes, the longest good ones, and one byte more than the longest text. A function of its own, as the room below:
+// else the proof of `main` writes all of its bytes out.
 fn fresh_input() -> [u8; 33252] {
     [0u8; 33252]
 }

@@ -2,16 +2,17 @@
 -- Assumes nothing.
 use Prim.Native.Nat.{ℕ, zero, suc, ◌+◌, ◌-◌, ◌≤◌, ◌<◌}
 use mathlib.Core.Path.{◌≡◌, refl, sym, ap, ◌∙◌}
-use mathlib.Core.Bool.{Bool, true, false, not, ◌&&◌, and-true, and-false, and_assoc}
+use mathlib.Core.Bool.{Bool, true, false, not, ◌&&◌, ◌||◌, cond, and-true, and-false, and_assoc}
 use mathlib.Core.List.{List, [], ◌∷◌}
 use native.Mathlib.Numerals.{add-one}
 use native.Mathlib.Omega.{arith}
 use native.Mathlib.Decide.{ℕ_discrete, dec_lt}
-use lib.Dec.{leb}
+use lib.Dec.{leb, eqb}
 use lib.ListN.{length, get_or, drop, drop_of_length-le}
 use lib.Seq.{drop-cons}
 use borrow.Author.Tests.{le-leb, lt-leb, ne_eqb}
-use Rattle.paths.specs.Path.{slash, spelled, is_path, plain, all_plain, good_path, ended, names, first, under}
+use Rattle.std.specs.List.{list_any}
+use Rattle.paths.specs.Path.{slash, spelled, is_path, plain, all_plain, good_path, lead, ended, names, first, under}
 use Rattle.paths.proofs.Paths.{first-same, first_other, first-lead-[]}
 
 -- ---- a good path
@@ -39,14 +40,14 @@ module _ (policy : Bool) where
   good_other [] e = refl
   good_other (b ∷ p) e = rw (ne_eqb _ _ e) (and-false (leb (length (b ∷ p)) 64))
 
-  pub good-first : (p : List ℕ) → length p ≤ 64 → get_or p 0 0 ≡ slash → good_path policy p ≡ good_rest policy false (drop 1 p)
+  pub good_first : (p : List ℕ) → length p ≤ 64 → get_or p 0 0 ≡ slash → good_path policy p ≡ good_rest policy false (drop 1 p)
   unfolding good_path is_path
-  good-first [] h e = absurd (omega arith)
-  good-first (b ∷ p) h e = rw (le-leb (length (b ∷ p)) 64 h, e, plain-slash)
+  good_first [] h e = absurd (omega arith)
+  good_first (b ∷ p) h e = rw (le-leb (length (b ∷ p)) 64 h, e, plain-slash)
 
   module _ (inside : Bool) (s : List ℕ) (i : ℕ) where
-    pub good-slash : i < length s → get_or s i 0 ≡ slash → good_rest policy inside (drop i s) ≡ (inside && good_rest policy false (drop (i + 1) s))
-    good-slash h e = rw (add-one, drop-cons s i 0, e, plain-slash) (and_assoc inside _ _)
+    pub good_slash : i < length s → get_or s i 0 ≡ slash → good_rest policy inside (drop i s) ≡ (inside && good_rest policy false (drop (i + 1) s))
+    good_slash h e = rw (add-one, drop-cons s i 0, e, plain-slash) (and_assoc inside _ _)
 
     pub good_name : i < length s → (get_or s i 0 ≡ slash → ⊥)
         → good_rest policy inside (drop i s) ≡ (plain policy (get_or s i 0) && good_rest policy true (drop (i + 1) s))
@@ -94,8 +95,14 @@ module _ (s : List ℕ) (i : ℕ) where
   pub none-next : i < length s → (get_or s i 0 ≡ slash → ⊥) → first (ended (drop i s)) [] ≡ first (ended (drop (i + 1) s)) []
   none-next h e = rw (add-one, drop-cons s i 0, ne_eqb _ _ e) (first-lead-[] (get_or s i 0) (ended (drop (suc i) s)))
 
-  pub none_end : length s ≤ i → first (ended (drop i s)) [] ≡ true
-  none_end h = rw drop_of_length-le
+-- no byte of it is a slash
+pub none_contains : (s : List ℕ) → not (list_any (λ y. eqb y slash) s) ≡ first (ended s) []
+none_contains [] = refl
+none_contains (b ∷ s) = go (eqb b slash) (none_contains s)
+  where
+    go : (t : Bool) → not (list_any (λ y. eqb y slash) s) ≡ first (ended s) [] → not (t || list_any (λ y. eqb y slash) s) ≡ first (cond t ([] ∷ ended s) (lead b (ended s))) []
+    go true e = refl
+    go false e = e ∙ sym (first-lead-[] b (ended s))
 
 -- ---- a slash at the end
 

@@ -2,10 +2,10 @@
 // What a reader must believe stands in specs/Path.antt: `good_path`, `names` and `under`.
 #![tactic(auto)]
 
-ghost use Rattle.std.specs.Prelude.{true, false, [], ◌≡◌, drop};
+ghost use Rattle.std.specs.Prelude.{true, false, [], ◌≡◌};
 ghost use Rattle.paths.specs.Path.{plain, good_path, ended, first, under};
 
-const SLASH: u8 = 47;
+const SLASH: u8 = b'/';
 
 // The longest good path.
 const LONGEST: usize = 64;
@@ -23,24 +23,21 @@ fn is_plain(b: u8, policy: bool) -> bool
 }
 
 // Whether `path` is a path of at most 64 bytes, each of which it may hold; `policy`: a path of a policy.
+#[tactic(auto, using(crate::proofs::Rests::good_long, crate::proofs::Rests::good_none, crate::proofs::Rests::good_other, crate::proofs::Rests::good_first, crate::proofs::Rests::good_slash, crate::proofs::Rests::good_name))]
 pub fn good_path(path: &[u8], policy: bool) -> bool
     ensures { result ≡ good_path policy path.now }
 {
-    let n = path.len();
-    if LONGEST < n {
+    if LONGEST < path.len() {
         return false;
     }
-    if n == 0 {
+    let Some((first, rest)) = path.split_first() else {
         return false;
-    }
-    if path[0] != SLASH {
+    };
+    if *first != SLASH {
         return false;
     }
     let mut inside = false;
-    let mut i = 1;
-    while i < n {
-        let b = path[i];
-        i += 1;
+    for &b in rest {
         if b == SLASH {
             if !inside {
                 return false;
@@ -56,18 +53,11 @@ pub fn good_path(path: &[u8], policy: bool) -> bool
     !inside
 }
 
-// Whether no slash is in `s` from byte `from` on: no name ends there.
-fn no_slash(s: &[u8], from: usize) -> bool
-    ensures { result ≡ first (ended (drop from s.now)) [] }
+// Whether no slash is in `s`: no name ends there.
+fn no_slash(s: &[u8]) -> bool
+    ensures { result ≡ first (ended s.now) [] }
 {
-    let mut i = from;
-    while i < s.len() {
-        if s[i] == SLASH {
-            return false;
-        }
-        i += 1;
-    }
-    true
+    !s.contains(&SLASH)
 }
 
 // Whether a slash ends `q`, and `p` ends before it or has another byte than `q` up to it: then `p` is not under `q`.
@@ -76,38 +66,21 @@ fn parts(p: &[u8], q: &[u8]) -> bool
     ensures { result ≡ true → under p.now q.now ≡ false }
 {
     let n = q.len();
-    if n < 2 {
+    if n < 2 || q[n - 1] != SLASH {
         return false;
     }
-    if q[n - 1] != SLASH {
-        return false;
-    }
-    if p.len() < n {
-        return true;
-    }
-    let mut i = n;
-    while 1 < i {
-        i -= 1;
-        if p[i] != q[i] {
-            return true;
-        }
-    }
-    false
+    p.len() < n || (1..n).rev().any(|i| p[i] != q[i])
 }
 
 // Whether `p` is under `q`: from where their bytes part on, no name of `q` ends. The first byte is in no name.
+#[tactic(auto, using(crate::proofs::Rests::under_first))]
 fn compared(p: &[u8], q: &[u8]) -> bool
     ensures { result ≡ under p.now q.now }
 {
-    let mut i = 1;
-    while i < q.len() {
-        if p.len() <= i {
-            return no_slash(q, i);
+    for i in 1..q.len() {
+        if p.len() <= i || p[i] != q[i] {
+            return no_slash(&q[i..]);
         }
-        if p[i] != q[i] {
-            return no_slash(q, i);
-        }
-        i += 1;
     }
     true
 }
@@ -116,8 +89,5 @@ fn compared(p: &[u8], q: &[u8]) -> bool
 pub fn under(p: &[u8], q: &[u8]) -> bool
     ensures { result ≡ under p.now q.now }
 {
-    if parts(p, q) {
-        return false;
-    }
-    compared(p, q)
+    !parts(p, q) && compared(p, q)
 }

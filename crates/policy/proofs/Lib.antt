@@ -8,5 +8,5 @@ pub mod Loads
 pub mod Accepted
 pub mod Moves
 pub mod Room
-pub mod Table
 pub mod Numbers
+pub mod Table

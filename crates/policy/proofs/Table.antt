@@ -9,10 +9,10 @@ use borrow.Author.Tests.{eq-eqb, ne_eqb}
 use lib.Dec.{leb}
 use lib.ListN.{length, get_or, drop, drop_of_length-le}
 use lib.Seq.{drop-cons}
-use Rattle.policy.specs.declared.frame.FrameType.{FrameType}
+use Rattle.policy.specs.declared.frame.FrameForm.{FrameForm}
 use Rattle.policy.specs.Frames.{fits_table}
 
-module _ (table : List FrameType) (other : FrameType) (k type size : ℕ) where
+module _ (table : List FrameForm) (other : FrameForm) (k type size : ℕ) where
   -- The row at k is of another type, or of this one.
   pub other_type : k < length table → ((get_or table k other).code ≡ type → ⊥) → fits_table (drop k table) type size ≡ fits_table (drop (k + 1) table) type size
   unfolding fits_table

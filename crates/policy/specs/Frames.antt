@@ -3,7 +3,7 @@
 use Rattle.std.specs.Prelude.{Bool, true, false, not, cond, ◌&&◌, ◌||◌, List, [], ◌∷◌, ℕ, ◌+◌, ◌-◌, ◌*◌, eqb, leb, ltb, length, get_or, take, drop}
 use Rattle.paths.specs.Path.{good_path, same}
 use Rattle.lines.specs.declared.Frame.{Frame}
-use Rattle.policy.specs.declared.frame.FrameType.{FrameType}
+use Rattle.policy.specs.declared.frame.FrameForm.{FrameForm}
 use Rattle.gran.specs.Lists.{any, member}
 use Rattle.gran.specs.Policy.{Policy, Role, Move, Object, Allowed, Entry, USER, GROUP, SPECIAL, DEFAULT, no_id}
 use Rattle.gran.specs.Match.{is_entry, objects_of}
@@ -66,12 +66,11 @@ id_from f = number4 f 1
 
 -- ---- 8: unknown type or wrong length
 
--- A type with its shortest and longest payload.
-abbrev pub frame_type : ℕ → ℕ → ℕ → FrameType
+abbrev pub frame_type : ℕ → ℕ → ℕ → FrameForm
 frame_type code shortest longest = record { code = code; shortest = shortest; longest = longest }
 
 -- Each type has its fixed shortest and longest length.
-abbrev pub frame_table : List FrameType
+abbrev pub frame_table : List FrameForm
 frame_table =
     frame_type 0x01 1 1
     ∷ frame_type 0x10 5 5
@@ -85,7 +84,7 @@ frame_table =
     ∷ []
 
 -- The table has the type, and the payload's size is within its bounds.
-unfoldable pub fits_table : List FrameType → ℕ → ℕ → Bool
+unfoldable pub fits_table : List FrameForm → ℕ → ℕ → Bool
 fits_table [] type size = false
 fits_table (t ∷ rest) type size = cond (eqb t.code type) (leb t.shortest size && leb size t.longest) (fits_table rest type size)
 

@@ -1,4 +1,5 @@
 pub mod Refused
+pub mod Types
 pub mod Frames
 pub mod Load
 pub mod Sound

@@ -37,3 +37,7 @@ refused_number (Err r) = refusal_number r.refusal
 abbrev pub refused_line : {A : Type 0} → Result A Refused → ℕ
 refused_line (Ok x) = 0
 refused_line (Err r) = r.line
+
+-- A refusal that is of no line.
+abbrev pub of_no_line : Refusal → Refused
+of_no_line r = record { refusal = r; line = 0 }

@@ -1,80 +1,125 @@
 // The fields of a frame, and the tests of refusals 8, 9, 10 and 13 that need no policy.
 // A frame's bytes are lent: a copy made right after they were written waits for each of them.
-ghost use Rattle.std.specs.Prelude.{◌≡◌, ℕ, ◌<◌, get_or};
+ghost use Rattle.std.specs.Prelude.{◌≡◌, ℕ};
 ghost use Rattle.policy.specs.Frames.{frame_in, number2, number4, role_from, frame_table, fits_table, may_follow, good_role, miscounts};
+ghost use Rattle.policy.specs.Types.{type_code, Typed};
 
-use rows::wide;
+use crate::refusal::Refusal;
+pub use rows::byte;
+use store::RoleKind;
 
-// A type with its shortest and longest payload. Bytes all: the compiled code lays the table down anew for each frame.
-#[derive(Clone, Copy)]
-struct FrameType {
-    code: u8,
-    shortest: u8,
-    longest: u8,
+// The types of frames, in the order in which they come.
+#[derive(Clone, Copy, PartialEq, Eq)]
+pub enum FrameType {
+    Version = 0x01,
+    Role = 0x10,
+    Path = 0x20,
+    Move = 0x30,
+    Entry = 0x40,
+    Object = 0x41,
+    Uid = 0x42,
+    Gid = 0x43,
+    End = 0x7f,
 }
 
-const FRAME_TYPES: [FrameType; 9] = [
-    FrameType {
-        code: 0x01,
+// A type with its shortest and longest payload.
+#[derive(Clone, Copy)]
+struct FrameForm {
+    code: u8,
+    shortest: usize,
+    longest: usize,
+}
+
+// Consulted before any field is read. By the byte, as `fits_type` and the definition `frame_table` have it.
+const FRAME_TYPES: [FrameForm; 9] = [
+    FrameForm {
+        code: FrameType::Version as u8,
         shortest: 1,
         longest: 1,
     },
-    FrameType {
-        code: 0x10,
+    FrameForm {
+        code: FrameType::Role as u8,
         shortest: 5,
         longest: 5,
     },
-    FrameType {
-        code: 0x20,
+    FrameForm {
+        code: FrameType::Path as u8,
         shortest: 1,
         longest: 79,
     },
-    FrameType {
-        code: 0x30,
+    FrameForm {
+        code: FrameType::Move as u8,
         shortest: 2,
         longest: 2,
     },
-    FrameType {
-        code: 0x40,
+    FrameForm {
+        code: FrameType::Entry as u8,
         shortest: 5,
         longest: 5,
     },
-    FrameType {
-        code: 0x41,
+    FrameForm {
+        code: FrameType::Object as u8,
         shortest: 2,
         longest: 2,
     },
-    FrameType {
-        code: 0x42,
+    FrameForm {
+        code: FrameType::Uid as u8,
         shortest: 4,
         longest: 4,
     },
-    FrameType {
-        code: 0x43,
+    FrameForm {
+        code: FrameType::Gid as u8,
         shortest: 4,
         longest: 4,
     },
-    FrameType {
-        code: 0x7f,
+    FrameForm {
+        code: FrameType::End as u8,
         shortest: 2,
         longest: 2,
     },
 ];
 
-fn word(b: u8) -> u32
-    ensures { (result ≡ b) × (result < 256) }
-{
-    b as u32
+impl TryFrom<u8> for FrameType {
+    type Error = Refusal;
+
+    ghost try_from_gives = { Typed };
+
+    fn try_from(code: u8) -> Result<Self, Refusal> {
+        match code {
+            0x01 => Ok(FrameType::Version),
+            0x10 => Ok(FrameType::Role),
+            0x20 => Ok(FrameType::Path),
+            0x30 => Ok(FrameType::Move),
+            0x40 => Ok(FrameType::Entry),
+            0x41 => Ok(FrameType::Object),
+            0x42 => Ok(FrameType::Uid),
+            0x43 => Ok(FrameType::Gid),
+            0x7f => Ok(FrameType::End),
+            _ => Err(Refusal::BadFrame),
+        }
+    }
 }
 
-// The byte at a place, 0 past the end.
-pub fn byte(bytes: &[u8], at: usize) -> u8
-    ensures { result ≡ get_or bytes.now at 0 }
-{
-    if at < bytes.len() {
-        return bytes[at];
+impl FrameType {
+    // The byte that a frame of the type begins with.
+    pub fn code(self) -> u8
+        ensures { result ≡ type_code self }
+    {
+        self as u8
     }
-    0
+
+    // Whether a payload may have this size, by the table of types.
+    pub fn fits(self, size: usize) -> bool
+        ensures { result ≡ fits_table frame_table (type_code self) size }
+    {
+        let code = self.code();
+        for form in &FRAME_TYPES {
+            if form.code == code {
+                return form.shortest <= size && size <= form.longest;
+            }
+        }
+        false
+    }
 }
 
 // The number in two bytes from a place on.
@@ -82,8 +127,8 @@ pub fn byte(bytes: &[u8], at: usize) -> u8
 pub fn number2(bytes: &[u8], at: u8) -> usize
     ensures { (size : ℕ) → result ≡ number2 (frame_in size bytes.now) at }
 {
-    let i = wide(at);
-    wide(byte(bytes, i)) * 256 + wide(byte(bytes, i + 1))
+    let at = usize::from(at);
+    usize::from(u16::from_be_bytes([byte(bytes, at), byte(bytes, at + 1)]))
 }
 
 // The number in four bytes from a place on.
@@ -91,53 +136,44 @@ pub fn number2(bytes: &[u8], at: u8) -> usize
 pub fn number4(bytes: &[u8], at: u8) -> u32
     ensures { (size : ℕ) → result ≡ number4 (frame_in size bytes.now) at }
 {
-    let i = wide(at);
-    let high = word(byte(bytes, i)) * 256 + word(byte(bytes, i + 1));
-    (high * 256 + word(byte(bytes, i + 2))) * 256 + word(byte(bytes, i + 3))
+    let at = usize::from(at);
+    u32::from_be_bytes([
+        byte(bytes, at),
+        byte(bytes, at + 1),
+        byte(bytes, at + 2),
+        byte(bytes, at + 3),
+    ])
 }
 
 // Whether the table has the type, with a payload of this size.
+#[tactic(auto, unfolding(crate::specs::Frames::fits_table))]
 pub fn fits_type(kind: u8, size: usize) -> bool
     ensures { result ≡ fits_table frame_table kind size }
 {
-    let mut k = 0;
-    while k < 9 {
-        let known = FRAME_TYPES[k];
-        if known.code == kind {
-            if size < wide(known.shortest) {
-                return false;
-            }
-            return size <= wide(known.longest);
-        }
-        k += 1;
+    match FrameType::try_from(kind) {
+        Ok(known) => known.fits(size),
+        Err(_) => false,
     }
-    false
 }
 
-// Whether a frame of type `kind` may follow one of type `last`, 0 at the start.
+// Whether a frame of type `kind` may follow one of type `last`, 0 at the start. Numbers, since `judge::refusal` answers for any byte as the last type.
 #[tactic(auto, unfolding(crate::specs::Frames::may_follow))]
 pub fn may_follow(last: u8, kind: u8) -> bool
     ensures { result ≡ may_follow last kind }
 {
+    let version = FrameType::Version.code();
+    let entry = FrameType::Entry.code();
+    let end = FrameType::End.code();
     if last == 0 {
-        return kind == 0x01;
+        kind == version
+    } else if kind == version {
+        false
+    } else if kind == entry || kind == end {
+        last != end
+    } else {
+        // What has a type above an entry's belongs to an entry.
+        last <= kind && (kind < entry || entry <= last)
     }
-    if kind == 0x01 {
-        return false;
-    }
-    if kind == 0x40 {
-        return last != 0x7f;
-    }
-    if kind == 0x7f {
-        return last != 0x7f;
-    }
-    if kind <= 0x40 {
-        return last <= kind;
-    }
-    if last < 0x40 {
-        return false;
-    }
-    last <= kind
 }
 
 // Whether the role's kind and id are in range.
@@ -145,21 +181,12 @@ pub fn may_follow(last: u8, kind: u8) -> bool
 pub fn is_good_role(bytes: &[u8]) -> bool
     ensures { (size : ℕ) → result ≡ good_role (role_from (frame_in size bytes.now)) }
 {
-    let kind = byte(bytes, 1);
     let id = number4(bytes, 2);
-    if kind == 0x75 {
-        return id != gran::NO_ID;
+    match RoleKind::of(byte(bytes, 1)) {
+        Some(RoleKind::User | RoleKind::Group) => id != gran::NO_ID,
+        Some(RoleKind::Special | RoleKind::Default) => id == 0,
+        None => false,
     }
-    if kind == 0x67 {
-        return id != gran::NO_ID;
-    }
-    if kind == 0x73 {
-        return id == 0;
-    }
-    if kind == 0x2d {
-        return id == 0;
-    }
-    false
 }
 
 // Whether a 7f counts other than the lines before it.
@@ -167,8 +194,5 @@ pub fn is_good_role(bytes: &[u8]) -> bool
 pub fn is_miscounted(lines: usize, bytes: &[u8]) -> bool
     ensures { (size : ℕ) → result ≡ miscounts lines (frame_in size bytes.now) }
 {
-    if byte(bytes, 0) == 0x7f {
-        return number2(bytes, 1) != lines;
-    }
-    false
+    byte(bytes, 0) == FrameType::End.code() && number2(bytes, 1) != lines
 }

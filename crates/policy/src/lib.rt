@@ -2,5 +2,5 @@
 // What a reader must believe stands in specs/Frames.antt, the tests of a frame, and specs/Load.antt, what a text gives.
 #![tactic(auto)]
 
-pub mod frame; // frame.rt: the fields of a frame, and the tests that need no policy
+pub mod frame; // frame.rt: the types of frames, their fields, and the tests that need no policy
 pub mod refusal; // refusal.rt: why a text or an ask is refused, by number

@@ -1,6 +1,6 @@
 // Why a text, or an ask, is refused. The numbers are the scope document's.
 ghost use Rattle.std.specs.Prelude.{◌≡◌};
-ghost use Rattle.policy.specs.Refused.{refusal_number};
+ghost use Rattle.policy.specs.Refused.{refusal_number, of_no_line};
 
 // The refusals in the order in which they are tested.
 #[derive(Clone, Copy, PartialEq, Eq)]
@@ -52,4 +52,12 @@ impl Refusal {
 pub struct Refused {
     pub refusal: Refusal,
     pub line: usize,
+}
+
+impl From<Refusal> for Refused {
+    ghost from_gives = { λ refusal r. r ≡ of_no_line refusal };
+
+    fn from(refusal: Refusal) -> Refused {
+        Refused { refusal, line: 0 }
+    }
 }

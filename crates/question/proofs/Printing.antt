@@ -9,8 +9,7 @@ use lib.ListN.{length, drop}
 use Rattle.lines.specs.Line.{encoded, EncodedAs}
 use Rattle.gran.specs.Policy.{Policy}
 use Rattle.policy.specs.Load.{Reading, refused, accepted, reading}
-use Rattle.ask.specs.declared.Answer.TheVariants.{Answered}
-use Rattle.ask.specs.Ask.{Asked, early, Lines, Areas, Outcome, answer_with, room_with, Comes, ComesTo, AskedAs}
+use Rattle.ask.specs.Ask.{Answered, Asked, early, Lines, Areas, Outcome, answer_with, room_with, Comes, ComesTo, AskedAs}
 use Rattle.question.specs.Question.{refusal_line, Prints, PrintsAfter}
 use Rattle.question.specs.Steps.{refusal, ToldAs, PutAs, RespondedAs}
 

@@ -8,9 +8,7 @@ use lib.Dec.{leb}
 use lib.ListN.{length}
 use Rattle.lines.proofs.Encoding.{encoded_one}
 use Rattle.policy.specs.Load.{Reading, refused, accepted, reading}
-use Rattle.ask.specs.declared.Answer.{Answer}
-use Rattle.ask.specs.declared.Answer.TheVariants.{Answered, Refused, Short}
-use Rattle.ask.specs.Ask.{Asked, early, room_with}
+use Rattle.ask.specs.Ask.{Answer, Answered, Refused, Short, Asked, early, room_with}
 use Rattle.ask.proofs.Unique.{lines_unique}
 use Rattle.question.specs.Question.{misses, asked_in, text_in, refusal_line, Prints, PrintsAfter, PrintsBehind, Printed, CheckedAs}
 use Rattle.question.specs.Steps.{refusal, ToldAs}

@@ -2,62 +2,78 @@
 // What a reader must believe stands in specs/Question.antt: `CheckedAs`. The promises of the steps between stand in specs/Steps.antt.
 #![tactic(auto)]
 
-ghost use Rattle.std.specs.Prelude.{◌≡◌, ◌≤◌, length};
+ghost use Rattle.std.specs.Prelude.{◌≡◌};
 ghost use Rattle.lines.specs.Line.{EncodedAs};
+ghost use Rattle.ask.specs.Ask.{answer_of};
 ghost use Rattle.question.specs.Question.{fits, CheckedAs};
-ghost use Rattle.question.specs.Steps.{LineAt, HasPath, asked_by, refusal, ToldAs, RespondedAs};
+ghost use Rattle.question.specs.Steps.{line_number, LineAs, HasPath, asked_by, refusal, ToldAs, RespondedAs, AnsweredAs};
 
-use ask::Answer;
+use ask::{Answer, Unanswered};
+use gran::Asked;
 use lines::Frame;
 use policy::frame;
 
-// A line of the input: its frame, of no bytes where the line is missing or of wrong form, and where it ends.
+// The question line that is missing, or of wrong line form, type or length, with its place among the three.
 #[derive(Clone, Copy)]
-struct Line {
-    frame: Frame,
-    end: usize,
+enum Unasked {
+    Account = 1,
+    Start = 2,
+    Target = 3,
 }
 
-fn line_at(input: &[u8], at: usize) -> Line
-    requires { at ≤ length input.now }
-    ensures { LineAt input.now at result }
-{
-    let end = at + lines::line_length(&input[at..]);
-    let frame = lines::decode(&input[at..]);
-    Line { frame, end }
+impl Unasked {
+    fn number(self) -> usize
+        ensures { result ≡ line_number self }
+    {
+        self as usize
+    }
+}
+
+// The first line of a text: its frame, and what follows it.
+#[derive(Clone, Copy)]
+struct Line<'a> {
+    frame: Frame,
+    rest: &'a [u8],
 }
 
 // Whether the frame is of this type, with a payload of these lengths.
-fn fits(f: Frame, kind: u8, shortest: usize, longest: usize) -> bool
-    ensures { result ≡ fits kind shortest longest f }
+#[tactic(auto, unfolding(crate::specs::Question::fits))]
+fn fits(f: &Frame, kind: u8, shortest: usize, longest: usize) -> bool
+    ensures { result ≡ fits kind shortest longest f.now }
 {
-    if frame::byte(&f.bytes, 0) != kind {
-        return false;
-    }
-    let size = f.size;
-    if size <= shortest {
-        return false;
-    }
-    size - 1 <= longest
+    frame::byte(&f.bytes, 0) == kind && shortest < f.size && f.size - 1 <= longest
 }
 
-// Writes a refusal's line in front of the output: its length, or 0 where it does not fit.
+// The first line of a text, where its frame is so.
+#[tactic(auto, using(lines::proofs::Lines::line_within))]
+fn first_line(text: &[u8], kind: u8, shortest: usize, longest: usize) -> Option<Line>
+    ensures { LineAs kind shortest longest text.now result }
+{
+    let frame = lines::decode(text);
+    if !fits(&frame, kind, shortest, longest) {
+        return None;
+    }
+    let rest = &text[lines::line_length(text)..];
+    Some(Line { frame, rest })
+}
+
+// Writes a refusal's line in front of the output: its length, or 0 where it does not fit. A number, since `tell` answers for each.
 #[tactic(auto, unfolding(store::specs::Layout::two))]
 fn refuse(number: u8, line: usize, output: &mut [u8]) -> usize
     ensures { EncodedAs (refusal number line) output.old result output.new }
 {
-    let bytes = [0x8f, number, (line / 256 % 256) as u8, (line % 256) as u8];
-    lines::encode(&bytes, output)
+    let [.., high, low] = line.to_be_bytes();
+    lines::encode(&[0x8f, number, high, low], output)
 }
 
 // The length of what is printed for an ask's answer: its lines stand in front of the output already, and a refusal's line goes there.
 pub fn tell(answer: Answer, output: &mut [u8]) -> usize
-    ensures { ToldAs answer output.old result output.new }
+    ensures { ToldAs (answer_of answer) output.old result output.new }
 {
     match answer {
-        Answer::Answered(size) => size,
-        Answer::Refused(number, line) => refuse(number, line, output),
-        Answer::Short(_) => refuse(17, 0, output),
+        Ok(size) => size,
+        Err(Unanswered::Refused(number, line)) => refuse(number, line, output),
+        Err(Unanswered::Short(_)) => refuse(17, 0, output),
     }
 }
 
@@ -71,53 +87,45 @@ fn fresh_work() -> [u16; 24576] {
 }
 
 // Asks what the three frames ask of a policy's text.
-fn respond(text: &[u8], question: Frame, start: Frame, target: Frame, output: &mut [u8]) -> usize
-    requires { HasPath start × HasPath target }
-    ensures { RespondedAs text.now (asked_by question start target) output.old result output.new }
+fn respond(text: &[u8], account: &Frame, start: &Frame, target: &Frame, output: &mut [u8]) -> usize
+    requires { HasPath start.now × HasPath target.now }
+    ensures { RespondedAs text.now (asked_by account.now start.now target.now) output.old result output.new }
 {
     let mut store = fresh_store();
     let mut work = fresh_work();
-    let asked = question.bytes;
-    let uid = frame::number4(&asked, 2);
-    let gid = frame::number4(&asked, 6);
-    let kind = frame::byte(&asked, 1);
-    let from = start.bytes;
-    let from_end = start.size;
-    let to = target.bytes;
-    let to_end = target.size;
-    let answer = leveecrumb::ask(
-        text,
-        &mut store,
-        &mut work,
-        output,
-        uid,
-        gid,
-        &from[1..from_end],
-        &to[1..to_end],
-        kind,
-    );
+    let asked = Asked {
+        uid: frame::number4(&account.bytes, 2),
+        gid: frame::number4(&account.bytes, 6),
+        start: &start.bytes[1..start.size],
+        target: &target.bytes[1..target.size],
+        kind: frame::byte(&account.bytes, 1),
+    };
+    let answer = leveecrumb::ask(text, &mut store, &mut work, output, asked);
     tell(answer, output)
+}
+
+// Asks what the three question lines ask of the policy behind them: each type, 60 to 62, stands here once, with its lengths.
+fn answered(input: &[u8], output: &mut [u8]) -> Result<usize, Unasked>
+    ensures { AnsweredAs input.now output.old result output.new }
+{
+    let account = first_line(input, 0x60, 9, 9).ok_or(Unasked::Account)?;
+    let start = first_line(account.rest, 0x61, 1, 79).ok_or(Unasked::Start)?;
+    let target = first_line(start.rest, 0x62, 1, 79).ok_or(Unasked::Target)?;
+    Ok(respond(
+        target.rest,
+        &account.frame,
+        &start.frame,
+        &target.frame,
+        output,
+    ))
 }
 
 // Answers an input of three question lines and a policy: what is printed stands in front of the output.
 pub fn check(input: &[u8], output: &mut [u8]) -> usize
     ensures { CheckedAs input.now output.old result output.new }
 {
-    let one = line_at(input, 0);
-    let question = one.frame;
-    if !fits(question, 0x60, 9, 9) {
-        return refuse(18, 1, output);
+    match answered(input, output) {
+        Ok(printed) => printed,
+        Err(unasked) => refuse(18, unasked.number(), output),
     }
-    let two = line_at(input, one.end);
-    let start = two.frame;
-    if !fits(start, 0x61, 1, 79) {
-        return refuse(18, 2, output);
-    }
-    let three = line_at(input, two.end);
-    let target = three.frame;
-    if !fits(target, 0x62, 1, 79) {
-        return refuse(18, 3, output);
-    }
-    let policy = three.end;
-    respond(&input[policy..], question, start, target, output)
 }

@@ -14,6 +14,7 @@ use Rattle.gran.specs.Real
 use Rattle.gran.specs.Abstract.{Act, real_act}
 use Rattle.lines.specs.Line.{line_of}
 use Rattle.lines.proofs.Encoding.{line_of-length}
+use Rattle.lines.proofs.Rooms.{drop-zeros}
 use Rattle.store.specs.Layout.{two, four}
 use Rattle.records.specs.Record.{records_of, step_bytes, step_lines, summary, filled}
 use Rattle.records.specs.declared.Step.{Step}
@@ -100,6 +101,5 @@ module _ (bytes : List ℕ) where
   unfolding filled
   filled_front = take-append_seam bytes _
 
-  pub filled_within : (filled bytes).size ≤ length (filled bytes).bytes
-  unfolding filled
-  filled_within = rw length-append (omega arith)
+-- What the functions here cite: a line's text and its zeros, and a step's bytes in front of them.
+pub ruleset line_laws = (line_of-length, drop-zeros, step_bytes_most, filled_size, filled_front)

@@ -3,7 +3,9 @@
 use Rattle.std.specs.Prelude.{cond, List, [], ◌∷◌, ◌++◌, ◌≡◌, ℕ, ◌+◌, ◌-◌, eqb, length, take, drop}
 use Rattle.gran.specs.Policy.{Policy, USER, GROUP}
 use Rattle.gran.specs.Real
+use Rattle.gran.specs.Real.{taken, user_set, group_set, executing}
 use Rattle.gran.specs.Abstract.{Act, set_special, set_user, set_group, exec, id_for, id_after, executed, real_act}
+use Rattle.gran.specs.declared.Process.{Process}
 use Rattle.lines.specs.Line.{line_of, zeros}
 use Rattle.store.specs.Layout.{two, four}
 use Rattle.records.specs.declared.Step.{Step}
@@ -27,6 +29,13 @@ record_of P σ (exec o u g s) = record {
 abbrev pub records_of : Policy → Real.State → List Act → List Step
 records_of P σ [] = []
 records_of P σ (a ∷ rest) = record_of P σ a ∷ records_of P (Real.next σ (real_act P σ a)) rest
+
+-- The process after the record.
+unfoldable pub after : Process → Step → Process
+after p r =
+    cond (eqb r.kind 0x81) (taken p r.role)
+    (cond (eqb r.kind 0x82) (user_set p r.uid)
+    (cond (eqb r.kind 0x83) (group_set p r.gid) (executing p r.file r.uid r.gid)))
 
 -- The bytes of a step's line: `81` special role or ff; `82` UID; `83` GID; `84` object path, executed path, UID, GID after it.
 unfoldable pub step_bytes : Step → List ℕ

@@ -6,7 +6,7 @@ use mathlib.Core.List.{List, [], ◌∷◌}
 use Prim.Native.Nat.{ℕ, ◌≤◌}
 use native.Mathlib.Omega.{arith}
 use lib.Dec.{eqb, ltb}
-use lib.ListN.{length, get_or-eq_default}
+use lib.ListN.{length}
 use borrow.Author.Tests.{ltb-true}
 use Rattle.paths.specs.Path.{is_path}
 use Rattle.paths.proofs.Bools.{to-false, eqb-to}
@@ -17,11 +17,22 @@ use Rattle.gran.specs.Role.{allows}
 use Rattle.gran.specs.Access.{has, sees, grant, grants, asked}
 use Rattle.gran.specs.Exec.{exec_may}
 use Rattle.gran.specs.Good.{Good, GoodEntry}
-use Rattle.gran.specs.Real.{State, set_uid, set_gid, exec, entry, may, may_exec, access}
+use Rattle.gran.specs.Real.{State, set_uid, set_gid, exec, entry, may, may_exec, access, file_of}
 use Rattle.gran.proofs.Policies.{table}
-use Rattle.lookup.specs.Lookup.{entry_at}
+use Rattle.store.specs.Held.{Loaded}
+use Rattle.fields.proofs.Header.{role-count, path-count}
+use Rattle.fields.proofs.Entries.{entry-caps}
+use Rattle.fields.proofs.Paths.{path_read}
+use Rattle.std.proofs.lemmas.Bool.Decides.{nat_tests}
 use Rattle.records.specs.declared.Step.{Step}
-use Rattle.replay.specs.Replay.{plainly, names, act_of}
+use Rattle.replay.specs.Replay.{plainly, names, act_of, last_file}
+
+-- ---- the file
+
+-- What the store says of a process's file is the file.
+pub file_is : {P : Policy} {rest store : List ℕ} → Loaded P rest store → (begin : List ℕ) (file : ℕ) → last_file begin store file ≡ file_of P begin file
+unfolding last_file file_of
+file_is L begin file = rw (path_read L file)
 
 -- ---- no entry
 
@@ -36,10 +47,6 @@ module _ (P : Policy) (r s : ℕ) (past : length P.roles ≤ r) where
 pub entry_unknown : (P : Policy) → Good P → (r : ℕ) (f : List ℕ) → length P.roles ≤ r → entry_in P r f ≡ no_entry
 unfolding entry_in entry_of
 entry_unknown P good r f past = find_none P r (subject_in P r f) past P.entries good.entries
-
--- A number that is none of the entries'.
-pub entry_past : (P : Policy) (e : ℕ) → length P.entries ≤ e → entry_at P e ≡ no_entry
-entry_past P e past = get_or-eq_default P.entries no_entry past
 
 module _ (P : Policy) (σ : State) (no : entry P σ ≡ no_entry) where
   pub no_access : (kind : ℕ) (t : List ℕ) → access P kind t σ ≡ false
@@ -97,3 +104,6 @@ module _ (P : Policy) (good : Good P) (n : ℕ) where
           ≡ (inside && eqb o (object_in P e f) && (is_path f && sees (modes_of e (object_in P e f)) EXEC && exec_may (eqb u σ.uid) (allows e.users u) && exec_may (eqb g σ.gid) (allows e.groups g)))
       go true l = regroup (eqb o (object_in P e f)) (sees (modes_of e (object_in P e f)) EXEC) (exec_may (eqb u σ.uid) (allows e.users u)) (exec_may (eqb g σ.gid) (allows e.groups g)) (is_path f) ((table P good).good n (ltb-true _ _ l))
       go false l = refl
+
+-- What the functions here cite of a loaded store.
+pub ruleset store_laws = (role-count, path-count, entry-caps, path_read, entry_unknown, no_step, plain-exec, nat_tests)

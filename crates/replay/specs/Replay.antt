@@ -4,11 +4,12 @@ use Rattle.std.specs.Prelude.{◌≡◌, Bool, true, false, cond, ◌&&◌, List
 use Rattle.gran.specs.Lists.{none}
 use Rattle.gran.specs.Policy.{Policy}
 use Rattle.gran.specs.Match.{path_at, object_in}
-use Rattle.gran.specs.Real.{State, Act, set_special, set_uid, set_gid, exec, entry, may, access, state_of, started, taken, user_set, group_set, executing}
+use Rattle.gran.specs.Real.{State, Act, set_special, set_uid, set_gid, exec, entry, may, access, state_of, started}
 use Rattle.gran.specs.Reach.{Question}
 use Rattle.gran.specs.declared.Process.{Process}
 use Rattle.fields.specs.Fields.{path_in, path_place, Pointer}
 use Rattle.records.specs.declared.Step.{Step}
+unfoldable pub use Rattle.records.specs.Record.{after}
 use Rattle.store.specs.Held.{Loaded}
 use Rattle.replay.specs.declared.Verdict.{Verdict}
 use Rattle.replay.specs.declared.Verdict.TheVariants.{Holds, NoStep, Denied}
@@ -43,13 +44,6 @@ acts_said P rows = map (act_of P) rows
 -- The record is a real step from σ.
 unfoldable pub is_step : Policy → State → Step → Bool
 is_step P σ r = plainly r && names P σ r && may P σ (act_of P r)
-
--- The process after the record.
-unfoldable pub after : Process → Step → Process
-after p r =
-    cond (eqb r.kind 0x81) (taken p r.role)
-    (cond (eqb r.kind 0x82) (user_set p r.uid)
-    (cond (eqb r.kind 0x83) (group_set p r.gid) (executing p r.file r.uid r.gid)))
 
 -- What the rest of a row says, from the record number `at` on: the first record that is no real step;
 -- else holds, with the last file's path number, or that the access is not granted at the end.

@@ -67,6 +67,10 @@ module _ {q : Question} {s t : List ℕ} {z : Sizes} (r : Ready q s t z) where
   pub ready_sized : Sized z
   ready_sized = rw r.sizes (sized (policy_in s) r.held.good)
 
+  -- The tables have room for each part.
+  pub ready_room : (z.users ≤ 16) × (z.groups ≤ 8) × (z.subjects ≤ 64) × (8192 ≤ length t)
+  ready_room = (ready_sized.users.1, ready_sized.groups.1, ready_sized.subjects.1, omega (arith, r.tabled.long))
+
   users_part : take (8 + z.users - 8) (drop 8 t) ≡ choices (policy_in s) USER
   unfolding sizes_of
   users_part = part_is (choices (policy_in s) USER) t 8 z.users (rw r.sizes) (omega (arith, ready_sized.users.1, r.tabled.long)) r.tabled.user

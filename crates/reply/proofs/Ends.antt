@@ -1,12 +1,13 @@
 -- The end of a search: the answer that it gives, and the run that is to be written.
 -- Assumes nothing.
 use mathlib.Core.Path.{◌≡◌, sym, ap, subst, ◌∙◌}
+use mathlib.Core.Bool.{true}
 use mathlib.Core.List.{List, ◌++◌}
 use Prim.Native.Nat.{ℕ, ◌+◌, ◌*◌, ◌-◌, ◌≤◌, ◌<◌}
 use native.Mathlib.Nat.{zero-add}
 use native.Mathlib.Omega.{arith}
-use borrow.Author.Tests.{le-leb, lt-leb, eq-eqb, ne_eqb}
-use lib.ListN.{length, length-append}
+use borrow.Author.Tests.{le-leb, lt-leb}
+use lib.ListN.{length, take, length-append}
 use Rattle.lines.specs.Line.{zeros, in_front}
 use Rattle.gran.specs.Policy.{Policy}
 use Rattle.gran.specs.Real.{state_of, started}
@@ -30,12 +31,11 @@ use Rattle.walk.proofs.Keeping.{kept_count, zeros-cleared}
 use Rattle.walk.proofs.Targets.{search_kept}
 use Rattle.walk.proofs.Rests.{search_rest}
 use Rattle.walk.proofs.Found.{search-never, search_met}
-use Rattle.ask.specs.Ask.{Asked, Lines, reached, start_of, question_of, room_with, answer_with}
-use Rattle.ask.specs.declared.Answer.TheVariants.{Answered, Short}
+use Rattle.ask.specs.Ask.{Answered, Short, Asked, Lines, reached, start_of, question_of, room_with, answer_with}
 use Rattle.reply.specs.Reply.{Held, Ready, Told, Blank}
 use Rattle.reply.specs.Run.{real_after, state_after, Traced, Lying, Writable, Wrote, Ended}
 use Rattle.reply.proofs.Digits.{ready_sized, start_inside}
-use Rattle.reply.proofs.Places.{shown_acts, traced_of}
+use Rattle.reply.proofs.Places.{shown_acts, traced_of, traced_front}
 
 -- ---- lines and a room
 
@@ -60,7 +60,7 @@ put_first p = (p.next ∙ zero-add _, p.room ∙ rw zero-add)
 -- ---- a run that was found
 
 module _ {s t area : List ℕ} {z : Sizes} {w : Progress} {start : Process} (g : Ended s t area z w start) where
-  module _ (m : w.met ≡ 1) where
+  module _ (m : w.met ≡ true) where
     -- The run, and the lines of the answer that shows it.
     abbrev pub run_of : List Act
     run_of = shown_acts (g.met m)
@@ -72,8 +72,8 @@ module _ {s t area : List ℕ} {z : Sizes} {w : Progress} {start : Process} (g :
       pub traced : Traced (policy_in s) (abstract (policy_in s) (start_of g.asked)) run_of area out n
       traced = traced_of (g.met m) was out n x
 
-      unfoldable pub lying_of : Lying area out n
-      lying_of = record { policy = policy_in s; good = g.ready.held.good; from = abstract (policy_in s) (start_of g.asked); acts = run_of; traced = traced }
+      unfoldable pub lying_of : Lying area (take n out) (length (take n out))
+      lying_of = record { policy = policy_in s; good = g.ready.held.good; from = abstract (policy_in s) (start_of g.asked); acts = run_of; traced = traced_front traced }
 
       pub run_few : (k : ℕ) → k ≡ length (step_lines (records_of (policy_in s) (start_of g.asked) run_of)) → k ≤ 188416
       run_few k e = omega (arith, step_lines_most (records_of (policy_in s) (start_of g.asked) run_of), records_of-length (policy_in s) (start_of g.asked) run_of, traced.size, traced.few)
@@ -85,7 +85,7 @@ module _ {s t area : List ℕ} {z : Sizes} {w : Progress} {start : Process} (g :
       lines_right = rw traced.size (reached run_of (w.count - 1) (g.met m).shown)
 
       module _ (before : List ℕ) (fits : length (lines_after n) ≤ length before) where
-        unfoldable pub writable_of : Writable s t area out n z
+        unfoldable pub writable_of : Writable s t area (take n out) (length (take n out)) z
         writable_of = record {
           question = question_of g.asked;
           ready = g.ready;
@@ -93,7 +93,7 @@ module _ {s t area : List ℕ} {z : Sizes} {w : Progress} {start : Process} (g :
           real = start_of g.asked;
           from = abstract (policy_in s) (start_of g.asked);
           acts = run_of;
-          traced = traced;
+          traced = traced_front traced;
           front = summary 1 (w.count - 1) n;
           before = before;
           fits = fits;
@@ -160,7 +160,7 @@ module _ {s t : List ℕ} {z : Sizes} (a : Asked) (r : Ready (question_of a) s t
       starts = ap (state_of (policy_in s) a.start) b ∙ started_is (policy_in s) a.start a.uid a.gid;
       few = kept_count z kept;
       never = λ m.
-          let all = search-never (policy_in s) _ s (question_of a) t r.held r.tabled (abstract (policy_in s) (start_of a)) inside area cleared (ap (λ (x : Walk). x.met) (sym found) ∙ ne_eqb _ _ m) in
+          let all = search-never (policy_in s) _ s (question_of a) t r.held r.tabled (abstract (policy_in s) (start_of a)) inside area cleared (ap (λ (x : Walk). x.met) (sym found) ∙ m) in
           rw (ap (λ (x : Walk). x.count) found) all;
-      met = λ m. rw found (search_met (policy_in s) _ s (question_of a) t r.held r.tabled (abstract (policy_in s) (start_of a)) inside area cleared (ap (λ (x : Walk). x.met) (sym found) ∙ eq-eqb _ _ m));
+      met = λ m. rw found (search_met (policy_in s) _ s (question_of a) t r.held r.tabled (abstract (policy_in s) (start_of a)) inside area cleared (ap (λ (x : Walk). x.met) (sym found) ∙ m));
     }

@@ -20,7 +20,7 @@ use Rattle.records.specs.declared.Step.{Step}
 use Rattle.records.proofs.Bytes.{records_of-length}
 use Rattle.records.proofs.Putting.{putting-fits, putting_goes_on, putting_ends}
 use Rattle.shown.proofs.Going.{going_on}
-use Rattle.reply.specs.declared.Writing.{Writing}
+use Rattle.reply.specs.declared.run.Writing.{Writing}
 use Rattle.reply.specs.Run.{act_of, real_after, state_after, Writable, Wrote}
 use Rattle.reply.proofs.Steps.{state_more, real_more, records-from}
 

@@ -2,17 +2,19 @@
 -- Assumes nothing.
 use mathlib.Core.Path.{◌≡◌, refl, sym, ap, ◌∙◌}
 use mathlib.Core.Bool.{Bool, true, false, cond}
-use mathlib.Core.List.{List, [], ◌∷◌}
+use mathlib.Core.List.{List, [], ◌∷◌, reverse}
 use Prim.Native.Nat.{ℕ, zero, suc, ◌+◌, ◌-◌, ◌≤◌, ◌<◌}
 use native.Mathlib.Omega.{arith}
 use lib.Dec.{eqb}
-use lib.ListN.{length, get_or, drop, length-append, get_or-append}
-use lib.Seq.{take-append-le, take_at, get_or_at}
+use lib.ListN.{length, get_or, take, drop, length-append, get_or-append}
+use lib.Seq.{take-append-le, take_at, get_or_at, length-take-le, get_or-take}
+use Rattle.std.proofs.lemmas.List.{get_or-reverse, length-reverse}
 use Rattle.gran.specs.Lists.{none}
 use Rattle.gran.specs.Policy.{Policy}
 use Rattle.gran.specs.Abstract.{Act, set_special, next, last}
 use Rattle.gran.specs.Reach.{Question}
 use Rattle.gran.specs.declared.State.{State}
+use Rattle.tables.proofs.Front.{get_d_any}
 use Rattle.runs.proofs.Trails.{last_append}
 use Rattle.runs.specs.Search.{Queued, state_at, parent_at, act_at}
 use Rattle.numbered.specs.Number.{state_number}
@@ -93,3 +95,21 @@ module _ {P : Policy} {q : Question} {α : State} {w : Walk} (m : Met P q α w) 
             let at : get_or out i 0 ≡ get_or ks i 0 = rw x.kept (get_or-append ks (drop n was) 0 i (omega arith)) in
             rw at (marked_along (w.count - 1) ks m.chain k i inside);
       }
+
+-- ---- such places from the last on, which are the steps from the first on
+
+pub turned : (places : List ℕ) (k p : ℕ) → (k < length (reverse places)) × (p ≡ get_or (reverse places) k p) → (k < length places) × (p ≡ get_or places (length places - 1 - k) 0)
+turned places k p (h, e) =
+    let inside : k < length places = omega (arith, length-reverse places) in
+    (inside, e ∙ get_or-reverse places k p inside ∙ get_d_any places (length places - 1 - k) p 0 (omega arith))
+
+-- The first n places of a longer list.
+pub traced_front : {P : Policy} {α : State} {acts : List Act} {area out : List ℕ} {n : ℕ} → Traced P α acts area out n → Traced P α acts area (take n out) (length (take n out))
+traced_front {P} {α} {acts} {area} {out} {n} x =
+    let long : length (take n out) ≡ n = length-take-le n out x.within in
+    rw long (record {
+      size = x.size;
+      few = x.few;
+      within = omega (arith, long);
+      marked = λ k i h. rw (get_or-take n out i 0 (omega (arith, h))) (x.marked k i h);
+    })

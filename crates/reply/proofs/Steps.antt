@@ -4,8 +4,8 @@ use mathlib.Core.Path.{◌≡◌, refl, ap, ◌∙◌}
 use mathlib.Core.List.{List, [], ◌∷◌}
 use Prim.Native.Nat.{ℕ, zero, suc, ◌+◌, ◌*◌, ◌≤◌, ◌<◌}
 use native.Mathlib.Omega.{arith}
-use lib.ListN.{length, take, drop, length-append, length-take}
-use lib.Seq.{take-length}
+use lib.ListN.{length, drop, length-append, length-drop}
+use lib.Seq.{drop-length}
 use Rattle.lines.specs.Line.{line_of}
 use Rattle.gran.specs.Policy.{Policy}
 use Rattle.gran.specs.Real
@@ -13,7 +13,7 @@ use Rattle.gran.specs.Abstract.{Act, next, real_act}
 use Rattle.gran.specs.declared.State.{State}
 use Rattle.records.specs.Record.{record_of, records_of, step_bytes, step_lines}
 use Rattle.records.proofs.Bytes.{step_lines_most, records_of-length}
-use Rattle.records.proofs.Putting.{step_lines_more}
+use Rattle.records.specs.declared.Step.{Step}
 use Rattle.reply.specs.Run.{act_of, real_after, state_after}
 
 pub state_more : (α : State) (acts : List Act) (k : ℕ) → k < length acts → state_after α acts (suc k) ≡ next (state_after α acts k) (act_of acts k)
@@ -37,21 +37,26 @@ module _ (P : Policy) where
   records-from σ (a ∷ acts) (suc k) h = records-from (Real.next σ (real_act P σ a)) acts k (omega arith)
 
   module _ (σ : Real.State) (acts : List Act) where
-    -- The length of the first k lines.
-    unfoldable pub length_to : ℕ → ℕ
-    length_to k = length (step_lines (take k (records_of P σ acts)))
+    -- The length of the lines from step k on.
+    unfoldable pub length_from : ℕ → ℕ
+    length_from k = length (step_lines (drop k (records_of P σ acts)))
 
-    pub length_more : (k : ℕ) → k < length acts → length_to (k + 1) ≡ length_to k + length (line_of (step_bytes (record_of P (real_after P σ acts k) (act_of acts k))))
-    unfolding length_to
-    length_more k h =
-        ap length (step_lines_more k (records_of P σ acts) (records-from σ acts k h))
-        ∙ length-append (step_lines (take k (records_of P σ acts))) (line_of (step_bytes (record_of P (real_after P σ acts k) (act_of acts k))))
+    pub length_more : (k j : ℕ) → suc k ≡ j → k < length acts → length_from k ≡ length (line_of (step_bytes (record_of P (real_after P σ acts k) (act_of acts k)))) + length_from j
+    unfolding length_from
+    length_more k j e h =
+        rw (← e)
+        (ap (λ (rs : List Step). length (step_lines rs)) (records-from σ acts k h)
+        ∙ length-append (line_of (step_bytes (record_of P (real_after P σ acts k) (act_of acts k)))) (step_lines (drop (suc k) (records_of P σ acts))))
 
     -- None of them is longer than 23 bytes.
-    pub length_few : (k : ℕ) → length_to k ≤ 23 * length acts
-    unfolding length_to
-    length_few k = omega (arith, step_lines_most (take k (records_of P σ acts)), length-take k (records_of P σ acts), records_of-length P σ acts)
+    pub length_few : (k : ℕ) → length_from k ≤ 23 * length acts
+    unfolding length_from
+    length_few k = omega (arith, step_lines_most (drop k (records_of P σ acts)), length-drop k (records_of P σ acts), records_of-length P σ acts)
 
-    pub length_all : (n : ℕ) → n ≡ length acts → length_to n ≡ length (step_lines (records_of P σ acts))
-    unfolding length_to
-    length_all n e = rw (e, ← records_of-length P σ acts, take-length)
+    pub length_none : (k : ℕ) → k ≡ length acts → 0 ≡ length_from k
+    unfolding length_from
+    length_none k e = rw (e, ← records_of-length P σ acts, drop-length)
+
+    pub length_all : (k : ℕ) → k ≡ 0 → length_from k ≡ length (step_lines (records_of P σ acts))
+    unfolding length_from
+    length_all k e = rw e

@@ -9,8 +9,7 @@ use Rattle.fields.specs.Fields.{policy_in}
 use Rattle.tables.specs.Tables.{Tabled}
 use Rattle.numbered.specs.Number.{all_states, sizes_of}
 use Rattle.numbered.specs.declared.Sizes.{Sizes}
-use Rattle.ask.specs.Ask.{Asked, Lines, room_with, answer_with}
-use Rattle.ask.specs.declared.Answer.{Answer}
+use Rattle.ask.specs.Ask.{Answer, Asked, Lines, room_with, answer_with}
 
 -- The store holds a policy: the one that its bytes state.
 abbrev pub Held : List ℕ → Type 0

@@ -1,6 +1,6 @@
 -- A run that a search found, and its lines while they are written: what the functions that write it require and leave.
 -- Assumes nothing.
-use Rattle.std.specs.Prelude.{◌≡◌, List, ◌++◌, ℕ, suc, ◌+◌, ◌*◌, ◌≤◌, ◌<◌, length, get_or, take}
+use Rattle.std.specs.Prelude.{◌≡◌, true, false, List, ◌++◌, ℕ, suc, ◌+◌, ◌*◌, ◌≤◌, ◌<◌, length, get_or, take}
 use Rattle.std.proofs.Math.Bool.{So}
 use Rattle.gran.specs.Lists.{none}
 use Rattle.gran.specs.Policy.{Policy}
@@ -24,7 +24,8 @@ use Rattle.walk.specs.Found.{Met}
 use Rattle.walk.specs.declared.Progress.{Progress}
 use Rattle.shown.specs.Shown.{Going}
 use Rattle.ask.specs.Ask.{Asked, start_of, question_of}
-use Rattle.reply.specs.declared.Writing.{Writing}
+use Rattle.reply.specs.declared.run.Searched.{Searched}
+use Rattle.reply.specs.declared.run.Writing.{Writing}
 use Rattle.reply.specs.Reply.{Ready}
 
 -- The act at a place of a run.
@@ -90,5 +91,16 @@ pub record Ended (s t area : List ℕ) (z : Sizes) (w : Progress) (start : Proce
   pub ready : Ready (question_of asked) s t z
   pub starts : state_of (policy_in s) asked.start start ≡ start_of asked
   pub few : w.count ≤ 8192
-  pub never : (w.met ≡ 1 → ⊥) → Unreached (policy_in s) (question_of asked) (abstract (policy_in s) (start_of asked)) w.count
-  pub met : w.met ≡ 1 → Met (policy_in s) (question_of asked) (abstract (policy_in s) (start_of asked)) (walk_of area w)
+  pub never : w.met ≡ false → Unreached (policy_in s) (question_of asked) (abstract (policy_in s) (start_of asked)) w.count
+  pub met : w.met ≡ true → Met (policy_in s) (question_of asked) (abstract (policy_in s) (start_of asked)) (walk_of area w)
+
+-- ---- of a search as the code holds it, and of the places of a run in its work area
+
+abbrev pub Over : Searched → Type 0
+Over a = Ended a.store.now a.tables.now a.area.now a.sizes a.end a.start
+
+abbrev pub LyingIn : Searched → List ℕ → Type 0
+LyingIn a places = Lying a.area.now places (length places)
+
+abbrev pub WritableIn : Searched → List ℕ → Type 0
+WritableIn a places = Writable a.store.now a.tables.now a.area.now places (length places) a.sizes

@@ -5,127 +5,81 @@
 mod run;
 mod start;
 
-ghost use Rattle.std.specs.Prelude.{◌≡◌, ◌≤◌, length};
+ghost use Rattle.std.specs.Prelude.{◌≡◌, ◌*◌, ◌≤◌, IsTrue, length};
 ghost use Rattle.fields.specs.Fields.{policy_in};
 ghost use Rattle.numbered.specs.Number.{all_states, sizes_of};
 ghost use Rattle.records.specs.Record.{summary};
+ghost use Rattle.ask.specs.Ask.{answer_of, asked_of};
 ghost use Rattle.reply.specs.Reply.{Held, Told, Answers, Blank, Responded};
-ghost use Rattle.reply.specs.Run.{Ended};
+ghost use Rattle.reply.specs.Run.{Over};
 
-use ask::Answer;
-use gran::Process;
-use numbered::Sizes;
-use walk::Progress;
+use ask::{Answer, Unanswered};
+use gran::{Asked, Process};
+use run::{Searched, Writing};
 
 // The length of an answer's first line.
 const SUMMARY: usize = 13;
 
-// Where the next line goes, the number of the state that is left, and the process that is in it.
-#[derive(Clone, Copy)]
-pub struct Writing {
-    pub at: usize,
-    pub from: usize,
-    pub process: Process,
-}
-
-// Room for the tables.
-fn no_tables() -> [u8; 8192] {
-    [0; 8192]
-}
-
 // So many states are few. Most policies have no more, and small areas are soon made.
 pub const FEW: usize = 1024;
 
-// Room for the places of a run, and of one among few states.
-fn no_places() -> [u16; 8192] {
-    [0; 8192]
-}
+// No policy has more states.
+const MOST: usize = 8192;
 
-fn few_places() -> [u16; 1024] {
-    [0; 1024]
+// Room for the tables; a contract over its content would write it out.
+fn no_tables() -> [u8; 8192] {
+    [0; 8192]
 }
 
 // The answer where the access is never had: all states that are reached.
 fn never(room: &mut [u8], opened: usize) -> Answer
     requires { opened ≤ 8192 }
-    ensures { Told (summary 0 opened 0) room.old result room.new }
+    ensures { Told (summary 0 opened 0) room.old (answer_of result) room.new }
 {
     if room.len() < SUMMARY {
-        return Answer::Short(SUMMARY);
+        return Err(Unanswered::Short(SUMMARY));
     }
-    let size = records::put_summary(room, 0, opened as u16, 0);
-    Answer::Answered(size)
+    Ok(records::put_summary(room, 0, opened as u16, 0))
 }
 
-// The answer with the run to the last state found: the states opened before it, and its steps, whose places go to `out`.
-fn reached_by(
-    area: &[u16],
-    store: &[u8],
-    t: &[u8],
-    z: Sizes,
-    w: Progress,
-    start: Process,
-    out: &mut [u16],
-    room: &mut [u8],
-) -> Answer
-    requires { Ended store.now t.now area.now z w start × (w.met ≡ 1) × (w.count ≤ length out.old) }
-    ensures { (g : Ended store.now t.now area.now z w start) → Answers (policy_in store.now) g.asked room.old result room.new }
+// The answer with the run to the last state found, which has a place for each of its steps: the states opened before it, and its steps.
+fn reached<const PLACES: usize>(searched: Searched, room: &mut [u8]) -> Answer
+    requires ended { Over searched }
+    requires met { IsTrue searched.end.met }
+    requires room { searched.end.count ≤ PLACES }
+    requires few { PLACES ≤ 8192 }
+    ensures { (g : Over searched.entry) → Answers (policy_in searched.entry.store.now) g.asked room.old (answer_of result) room.new }
 {
-    let opened = w.count - 1;
-    let n = walk::trace(area, opened, out);
-    let size = SUMMARY + run::run_length(area, out, n);
+    let opened = searched.end.count - 1;
+    let mut places = [0; PLACES];
+    let steps = walk::trace(searched.area, opened, &mut places);
+    let run = &places[..steps];
+    let size = SUMMARY + searched.run_length(run);
     if room.len() < size {
-        return Answer::Short(size);
+        return Err(Unanswered::Short(size));
     }
-    let at = records::put_summary(room, 1, opened as u16, n as u16);
     let first = Writing {
-        at,
-        from: area[0] as usize,
-        process: start,
+        at: records::put_summary(room, 1, opened as u16, steps as u16),
+        from: usize::from(searched.area[0]),
+        process: searched.start,
     };
-    run::write_run(area, store, t, z, out, n, room, first);
-    Answer::Answered(size)
-}
-
-// The same, with a room of its own for the places.
-fn reached(
-    area: &[u16],
-    store: &[u8],
-    t: &[u8],
-    z: Sizes,
-    w: Progress,
-    start: Process,
-    room: &mut [u8],
-) -> Answer
-    requires { Ended store.now t.now area.now z w start × (w.met ≡ 1) }
-    ensures { (g : Ended store.now t.now area.now z w start) → Answers (policy_in store.now) g.asked room.old result room.new }
-{
-    if w.count <= FEW {
-        let mut few = few_places();
-        return reached_by(area, store, t, z, w, start, &mut few, room);
-    }
-    let mut out = no_places();
-    reached_by(area, store, t, z, w, start, &mut out, room)
+    searched.write_run(run, room, first);
+    Ok(size)
 }
 
 // The answer after a search.
-fn told(
-    area: &[u16],
-    store: &[u8],
-    t: &[u8],
-    z: Sizes,
-    w: Progress,
-    start: Process,
-    room: &mut [u8],
-) -> Answer
-    requires { Ended store.now t.now area.now z w start }
-    ensures { (g : Ended store.now t.now area.now z w start) → Answers (policy_in store.now) g.asked room.old result room.new }
+fn told(searched: Searched, room: &mut [u8]) -> Answer
+    requires { Over searched }
+    ensures { (g : Over searched.entry) → Answers (policy_in searched.entry.store.now) g.asked room.old (answer_of result) room.new }
 {
-    let met = w.met;
-    if met == 1 {
-        return reached(area, store, t, z, w, start, room);
+    let end = searched.end;
+    if !end.met {
+        return never(room, end.count);
     }
-    never(room, w.count)
+    if end.count <= FEW {
+        return reached::<FEW>(searched, room);
+    }
+    reached::<MOST>(searched, room)
 }
 
 // How many states the policy in the store has.
@@ -133,31 +87,29 @@ pub fn states(store: &[u8]) -> usize
     requires { Held store.now }
     ensures { result ≡ all_states (sizes_of (policy_in store.now)) }
 {
-    let z = start::sizes(store);
-    walk::state::all_states(z)
+    walk::state::all_states(start::sizes(store))
 }
 
 // Answers a question about the policy in the store, on a work area of zeros, three at least for each of its states, and leaves them zero.
-pub fn respond(
-    store: &[u8],
-    area: &mut [u16],
-    room: &mut [u8],
-    uid: u32,
-    gid: u32,
-    start: &[u8],
-    target: &[u8],
-    kind: u8,
-) -> Answer
+pub fn respond(store: &[u8], area: &mut [u16], room: &mut [u8], asked: Asked) -> Answer
     requires held { Held store.now }
     requires blank { Blank (policy_in store.now) area.old }
-    ensures { Responded (policy_in store.now) (record { uid = uid; gid = gid; start = start.now; target = target.now; kind = kind }) room.old result room.new (length area.old) area.new }
+    ensures { Responded (policy_in store.now) (asked_of asked.entry) room.old (answer_of result) room.new (length area.old) area.new }
 {
-    let mut t = no_tables();
-    tables::fill(store, target, kind, &mut t);
-    let z = start::sizes(store);
-    let from = start::start_number(store, &t, z, uid, gid, start);
-    let w = walk::search(area, store, &t, z, from);
-    let r = told(area, store, &t, z, w, Process::start(uid, gid), room);
-    walk::wipe(area, z);
-    r
+    let mut tables = no_tables();
+    tables::fill(store, asked.target, asked.kind, &mut tables);
+    let sizes = start::sizes(store);
+    let from = start::start_number(store, &tables, sizes, asked);
+    let end = walk::search(area, store, &tables, sizes, from);
+    let searched = Searched {
+        area,
+        store,
+        tables: &tables,
+        sizes,
+        end,
+        start: Process::start(asked.uid, asked.gid),
+    };
+    let answer = told(searched, room);
+    walk::wipe(area, sizes);
+    answer
 }

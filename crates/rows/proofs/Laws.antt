@@ -1,54 +1,38 @@
--- Laws of the loops over a row and over a table's rows: what is left at an index decides.
+-- How a row begins, said by the library's comparison of two lists; and the rows of a table, one after the other.
 -- Assumes nothing.
-use mathlib.Core.Path.{◌≡◌, refl}
-use mathlib.Core.Bool.{Bool, true, false, ◌||◌, and-false}
-use mathlib.Core.List.{List, [], ◌∷◌}
-use Prim.Native.Nat.{ℕ, zero, suc, ◌+◌, ◌-◌, ◌*◌, ◌≤◌, ◌<◌}
-use native.Mathlib.Nat.{not-suc-le-zero, suc-mul, add-sub_cancel_left}
-use native.Mathlib.Numerals.{add-one, sub-one}
-use borrow.Author.Tests.{eq-eqb, ne_eqb}
-use lib.Dec.{eqb}
-use lib.ListN.{length, get_or, take, drop, drop_of_length-le}
-use lib.Seq.{drop-cons, drop-drop}
+use Rattle.std.proofs.Common.{◌≡◌, refl, sym, ℕ, zero, suc, ◌-◌, ◌<◌, ◌||◌, false, List, [], ◌∷◌, length, take, drop, eqb, slice_index, EachIndex, Decides, arith, sub-one}
+use Rattle.std.specs.Cmp.Lexicographic.{pointwise}
+use Rattle.std.proofs.lemmas.Bool.Decides.{Decides-and, Decides-eqb}
 use Rattle.rows.specs.Rows.{rows_of, begins_with, has_row}
 
--- a key and a row from an index on, by what stands there
-module _ (key row : List ℕ) (i : ℕ) where
-  pub begins-same : i < length key → i < length row → get_or key i 0 ≡ get_or row i 0 →
-      begins_with (drop i key) (drop i row) ≡ begins_with (drop (i + 1) key) (drop (i + 1) row)
-  unfolding begins_with
-  begins-same h g e = rw (drop-cons key i 0 h, drop-cons row i 0 g, add-one) (simp (eq-eqb _ _ e))
-
-  pub begins_other : i < length key → i < length row → (get_or key i 0 ≡ get_or row i 0 → ⊥) → begins_with (drop i key) (drop i row) ≡ false
-  unfolding begins_with
-  begins_other h g n = rw (drop-cons key i 0 h, drop-cons row i 0 g) (simp (ne_eqb _ _ n))
-
-  pub begins-end : length key ≤ i → begins_with (drop i key) (drop i row) ≡ true
-  unfolding begins_with
-  begins-end h = rw (drop_of_length-le key {i = i} h)
-
--- what differs from an index on differs from the first byte on
-pub begins-later : (key row : List ℕ) (i : ℕ) → begins_with (drop i key) (drop i row) ≡ false → begins_with key row ≡ false
+pub starts_begins : (key row : List ℕ) → pointwise eqb key (take (length key) row) ≡ begins_with key row
 unfolding begins_with
-begins-later key row zero e = e
-begins-later [] row (suc i) e = e
-begins-later (k ∷ key) [] (suc i) e = refl
-begins-later (k ∷ key) (b ∷ row) (suc i) e = rw (begins-later key row i e) (and-false (eqb k b))
+starts_begins [] row = refl
+starts_begins (k ∷ key) [] = refl
+starts_begins (k ∷ key) (b ∷ row) = rw (starts_begins key row)
 
--- the room of the rows that are left, of which one is taken
-pub row_room : (width left : ℕ) → 0 < left → left * width ≡ (left - 1) * width + width
-row_room width zero h = absurd (not-suc-le-zero h)
-row_room width (suc n) h = rw (suc-mul, sub-one)
+-- two lists are the same at each index where their heads are and their tails are
+each_index_more : (x y : ℕ) (xs ys : List ℕ) → x ≡ y → EachIndex xs (λ k. slice_index xs k ≡ slice_index ys k) → EachIndex (x ∷ xs) (λ k. slice_index (x ∷ xs) k ≡ slice_index (y ∷ ys) k)
+each_index_more x y xs ys e h zero g = e
+each_index_more x y xs ys e h (suc k) g = h k (omega arith)
 
--- the row at a place of a table, which begins with the key or not, and the rows after it
-pub rows_more : (table key : List ℕ) (width at left : ℕ) → 0 < left → (t : Bool) → begins_with key (take (at + width - at) (drop at table)) ≡ t →
-    has_row key (rows_of width left (drop at table)) ≡ (t || has_row key (rows_of width (left - 1) (drop (at + width) table)))
+-- a key that a row of its length begins with is that row, byte by byte
+pub is_same_decides : (key row : List ℕ) → length key ≡ length row → Decides (begins_with key row) (EachIndex row (λ k. slice_index row k ≡ slice_index key k))
+unfolding begins_with
+is_same_decides [] [] e = (λ _. λ k h. refl, λ _. refl)
+is_same_decides [] (b ∷ row) e = absurd (omega arith)
+is_same_decides (k ∷ key) [] e = absurd (omega arith)
+is_same_decides (k ∷ key) (b ∷ row) e =
+    let rest = is_same_decides key row cc in
+    let both = Decides-and (eqb k b) (begins_with key row) (Decides-eqb k b) rest in
+    (λ t. each_index_more b k row key (sym (both.0 t).0) (both.0 t).1, λ h. both.1 (sym (h 0 (omega arith)), λ i g. h (suc i) (omega arith)))
+
+-- one row more, and the rows after it
+pub has_row_more : (key table : List ℕ) (width left : ℕ) → 0 < left → has_row key (rows_of width left table) ≡ (begins_with key (take width table) || has_row key (rows_of width (left - 1) (drop width table)))
 unfolding rows_of has_row
-rows_more table key width at zero h t e = absurd (not-suc-le-zero h)
-rows_more table key width at (suc n) h t e = rw (← e, add-sub_cancel_left, sub-one, drop-drop)
+has_row_more key table width zero h = absurd (omega arith)
+has_row_more key table width (suc n) h = rw sub-one refl
 
--- no rows are left
-pub rows_end : (table key : List ℕ) (width left : ℕ) → left ≤ 0 → has_row key (rows_of width left table) ≡ false
+pub has_row_none : (key table : List ℕ) (width : ℕ) → has_row key (rows_of width 0 table) ≡ false
 unfolding rows_of has_row
-rows_end table key width zero h = refl
-rows_end table key width (suc n) h = absurd (not-suc-le-zero h)
+has_row_none key table width = refl

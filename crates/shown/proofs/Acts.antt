@@ -16,13 +16,13 @@ use Rattle.gran.specs.Match.{path_at, subjects, objects_of, object_in, modes_of}
 use Rattle.gran.specs.Access.{sees}
 use Rattle.gran.specs.Good.{Good}
 use Rattle.gran.specs.Real
-use Rattle.gran.specs.Real.{state_of, taken, user_set, group_set, executing}
+use Rattle.gran.specs.Real.{state_of}
 use Rattle.gran.specs.Abstract.{Act, set_special, set_user, set_group, exec, abstract, entry, image, may_exec, may, next, id_for, executed, real_act}
 use Rattle.gran.specs.declared.State.{State}
 use Rattle.gran.specs.declared.Process.{Process}
 use Rattle.gran.proofs.Policies.{subjects-named}
 use Rattle.gran.proofs.Processes.{taken_is, user_set_is, group_set_is, executing_is}
-use Rattle.records.specs.Record.{record_of, step_bytes}
+use Rattle.records.specs.Record.{record_of, step_bytes, after}
 use Rattle.records.specs.declared.Step.{Step}
 use Rattle.records.proofs.Bytes.{step_line-length}
 use Rattle.numbered.specs.Candidates.{label_of}
@@ -102,19 +102,15 @@ module _ (P : Policy) (good : Good P) (α : State) where
 
 -- ---- the process after it
 
--- By the kind of the record.
-unfoldable pub process_after : Process → Step → Process
-process_after p r = one_of 0x81 r.kind (taken p r.role) (user_set p r.uid) (group_set p r.gid) (executing p r.file r.uid r.gid)
-
 module _ (P : Policy) (good : Good P) (begin : List ℕ) (p : Process) where
   after_is : (a : Act) → So (may P (abstract P (state_of P begin p)) a)
-      → state_of P begin (process_after p (record_of P (state_of P begin p) a)) ≡ Real.next (state_of P begin p) (real_act P (state_of P begin p) a)
-  unfolding record_of real_act process_after one_of
+      → state_of P begin (after p (record_of P (state_of P begin p) a)) ≡ Real.next (state_of P begin p) (real_act P (state_of P begin p) a)
+  unfolding record_of real_act after
   after_is (set_special s) m = taken_is P begin p s
   after_is (set_user r) m = user_set_is P begin p _
   after_is (set_group r) m = group_set_is P begin p _
   after_is (exec o u g s) m = executing_is P begin p _ _ _ (file_path P good _ o u g s m _)
 
   pub process_is : (r : Step) (a : Act) → So (may P (abstract P (state_of P begin p)) a) → r ≡ record_of P (state_of P begin p) a
-      → state_of P begin (process_after p r) ≡ Real.next (state_of P begin p) (real_act P (state_of P begin p) a)
+      → state_of P begin (after p r) ≡ Real.next (state_of P begin p) (real_act P (state_of P begin p) a)
   process_is r a m e = rw e (after_is a m)

@@ -1,5 +1,4 @@
 pub mod Four
-pub mod Sizes
 pub mod Ids
 pub mod Tabled
 pub mod Objects

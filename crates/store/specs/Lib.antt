@@ -1,3 +1,4 @@
+pub mod Kind
 pub mod Layout
 pub mod Held
 pub mod Grow

@@ -4,8 +4,40 @@
 #![tactic(auto)]
 
 ghost use Rattle.std.specs.Prelude.{◌≡◌};
+ghost use Rattle.store.specs.Kind.{kind_code, KindOf};
 ghost use Rattle.store.specs.Layout.{four};
 ghost use Rattle.store.specs.Held.{Bounded, no_tally, role_tally, path_tally, move_tally, entry_tally, object_tally, uid_tally, gid_tally};
+
+// The kinds of roles, by the bytes of their frames.
+#[derive(Clone, Copy, PartialEq, Eq)]
+pub enum RoleKind {
+    User = 0x75,
+    Group = 0x67,
+    Special = 0x73,
+    Default = 0x2d,
+}
+
+impl RoleKind {
+    // The kind with this code, if one has it.
+    pub fn of(code: u8) -> Option<RoleKind>
+        ensures { KindOf code result }
+    {
+        match code {
+            0x75 => Some(RoleKind::User),
+            0x67 => Some(RoleKind::Group),
+            0x73 => Some(RoleKind::Special),
+            0x2d => Some(RoleKind::Default),
+            _ => None,
+        }
+    }
+
+    // The byte that stands for the kind.
+    pub fn code(self) -> u8
+        ensures { result ≡ kind_code self }
+    {
+        self as u8
+    }
+}
 
 // What the last entry has so far: objects, listed UIDs and GIDs, user and group mode.
 #[derive(Clone, Copy)]
@@ -17,7 +49,19 @@ pub struct Last {
     pub groups: u8,
 }
 
+impl Last {
+    // No entry yet.
+    const EMPTY: Last = Last {
+        objects: 0,
+        uids: 0,
+        gids: 0,
+        users: 1,
+        groups: 1,
+    };
+}
+
 // What was loaded so far: how many of each kind, the bytes of all paths, and the last entry.
+// No ghost field says `Bounded`: `writing::add_entry` asks nothing of the counts of the entry before, as a tally that is bounded would.
 #[derive(Clone, Copy)]
 pub struct Tally {
     pub users: usize,
@@ -49,34 +93,21 @@ impl Tally {
             entries: 0,
             objects: 0,
             ids: 0,
-            last: Last {
-                objects: 0,
-                uids: 0,
-                gids: 0,
-                users: 1,
-                groups: 1,
-            },
+            last: Last::EMPTY,
         }
     }
 
-    // The tallies after one thing more, which stay within their bounds: a role of this kind.
+    // The tallies after one thing more, which stay within their bounds: a role of this kind, any byte, as `writing::add_role` takes it.
     pub fn with_role(mut self, kind: u8) -> Self
         requires { Bounded (role_tally self kind) }
         ensures { result ≡ role_tally self kind }
     {
-        if kind == 0x75 {
-            self.users += 1;
-            return self;
+        match RoleKind::of(kind).unwrap_or(RoleKind::Default) {
+            RoleKind::User => self.users += 1,
+            RoleKind::Group => self.groups += 1,
+            RoleKind::Special => self.specials += 1,
+            RoleKind::Default => self.defaults += 1,
         }
-        if kind == 0x67 {
-            self.groups += 1;
-            return self;
-        }
-        if kind == 0x73 {
-            self.specials += 1;
-            return self;
-        }
-        self.defaults += 1;
         self
     }
 
@@ -105,14 +136,11 @@ impl Tally {
         ensures { result ≡ entry_tally self users groups }
     {
         self.entries += 1;
-        let last = Last {
-            objects: 0,
-            uids: 0,
-            gids: 0,
+        self.last = Last {
             users,
             groups,
+            ..Last::EMPTY
         };
-        self.last = last;
         self
     }
 
@@ -122,21 +150,17 @@ impl Tally {
         ensures { result ≡ object_tally self }
     {
         self.objects += 1;
-        let mut last = self.last;
-        last.objects += 1;
-        self.last = last;
+        self.last.objects += 1;
         self
     }
 
-    // A listed UID of the last entry.
+    // A listed UID of the last entry. (One for both kinds of ids would ask which, and be longer than the two.)
     pub fn with_uid(mut self) -> Self
         requires { Bounded (uid_tally self) }
         ensures { result ≡ uid_tally self }
     {
         self.ids += 1;
-        let mut last = self.last;
-        last.uids += 1;
-        self.last = last;
+        self.last.uids += 1;
         self
     }
 
@@ -146,9 +170,7 @@ impl Tally {
         ensures { result ≡ gid_tally self }
     {
         self.ids += 1;
-        let mut last = self.last;
-        last.gids += 1;
-        self.last = last;
+        self.last.gids += 1;
         self
     }
 }
@@ -158,10 +180,5 @@ impl Tally {
 pub fn id_bytes(id: u32) -> [u8; 4]
     ensures { result ≡ four id }
 {
-    [
-        (id / 16777216 % 256) as u8,
-        (id / 65536 % 256) as u8,
-        (id / 256 % 256) as u8,
-        (id % 256) as u8,
-    ]
+    id.to_be_bytes()
 }

@@ -6,25 +6,23 @@ use mathlib.Core.Bool.{Bool, true, false}
 use mathlib.Core.List.{List}
 use Prim.Native.Nat.{ℕ, ◌+◌, ◌≤◌, ◌<◌}
 use native.Mathlib.Decide.{dec_lt}
-use native.Mathlib.Nat.{not-suc-le-zero, eq-or-lt_of_le, le_of_suc-le-suc}
+use native.Mathlib.Nat.{eq-or-lt_of_le, le_of_suc-le-suc}
 use native.Mathlib.Numerals.{add-one}
 use native.Mathlib.Omega.{arith}
 use lib.ListN.{length, set, length-set}
 use lib.Seq.{get_or-set_same, get_or-set_other}
+use Rattle.std.specs.Int.{from_bool}
 use Rattle.gran.specs.Policy.{Policy}
 use Rattle.store.specs.Held.{Loaded}
 use Rattle.tables.specs.Tables.{cell}
-use Rattle.tables.specs.Regions.{holds, flag_of, Region}
+use Rattle.tables.specs.Regions.{holds, Region}
 
-pub holds_flag : (b : Bool) → holds (flag_of b) ≡ b
+pub holds_flag : (b : Bool) → holds (from_bool b) ≡ b
 unfolding holds
 holds_flag true = refl
 holds_flag false = refl
 
 module _ (s : List ℕ) (Held : Policy → ℕ → ℕ → Type 0) where
-  pub region-none : (part : List ℕ) → Region s Held 0 part
-  region-none part P rest L i h l = absurd (not-suc-le-zero h)
-
   -- One cell more.
   pub region_more : (n v : ℕ) (part : List ℕ) → Region s Held n part → ((P : Policy) (rest : List ℕ) → Loaded P rest s → Held P n v) → Region s Held (n + 1) (set part n v)
   region_more n v part before here P rest L i h l = go (eq-or-lt_of_le (le_of_suc-le-suc (rw add-one at h)))

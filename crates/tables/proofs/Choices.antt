@@ -1,6 +1,6 @@
 -- The choices of a kind as a loop over the roles finds them, and what each of them is.
 -- Assumes nothing.
-use mathlib.Core.Path.{◌≡◌, refl, sym, ap, ◌∙◌}
+use mathlib.Core.Path.{◌≡◌, refl, ap, ◌∙◌}
 use mathlib.Core.Logic.{inl, inr}
 use mathlib.Core.Bool.{Bool, true, false, cond, So}
 use mathlib.Core.List.{List, [], ◌∷◌}
@@ -8,22 +8,21 @@ use Prim.Native.Nat.{ℕ, zero, suc, ◌+◌, ◌≤◌, ◌<◌, zero-le}
 use native.Mathlib.Nat.{not-suc-le-zero, le_of_suc-le-suc}
 use native.Mathlib.Numerals.{add-one}
 use native.Mathlib.Omega.{arith}
-use borrow.Author.Tests.{ne_eqb}
+use lib.Dec.{eqb}
 use lib.ListN.{length, get_or, drop, set, drop_of_length-le}
 use lib.Seq.{drop-cons}
-use Rattle.gran.specs.Lists.{none, places}
+use Rattle.gran.specs.Lists.{none, places, only, numbers}
 use Rattle.gran.specs.Policy.{Policy}
 use Rattle.gran.specs.Role.{of_kind, no_role}
 use Rattle.gran.specs.Good.{roles_of}
-use Rattle.paths.proofs.Bools.{eqb_of}
 use Rattle.gran.proofs.Members.{places-length}
 use Rattle.runs.specs.Steps.{choices}
 use Rattle.store.specs.Held.{Loaded}
 use Rattle.fields.specs.Fields.{role_count, role_kind}
 use Rattle.fields.proofs.Header.{role-count}
 use Rattle.fields.proofs.Roles.{role-kind}
-use Rattle.tables.specs.Regions.{Front, Choice}
-use Rattle.tables.proofs.Front.{Written, written_more, written_kept, written-end}
+use Rattle.tables.specs.Regions.{Written, Choice}
+use Rattle.tables.proofs.Front.{written_more}
 
 module _ {A : Type 0} (test : A → Bool) (d : A) where
   -- Number j of a row of places, counted from i, is that of an element that passes.
@@ -69,24 +68,27 @@ module _ (P : Policy) (k : ℕ) where
       go : Found (of_kind k) no_role (places (of_kind k) 0 P.roles) j 0 P.roles → Choice P k r
       go (m, e, l, t) = let at : r ≡ m = omega arith in inr (omega arith, rw at t)
 
--- ---- the loop over the roles
+-- ---- the choices among the numbers of all roles
 
 module _ {P : Policy} {rest s : List ℕ} (L : Loaded P rest s) (k : ℕ) where
-  pub choices_begin : (part : List ℕ) → length (choices P k) ≤ length part → Written (choices P k) 1 (set part 0 none) (places (of_kind k) 0 P.roles)
+  abbrev counts : ℕ → Bool
+  counts r = eqb (role_kind s r) k
+
+  from_role : (r n : ℕ) → r + n ≡ length P.roles → places (of_kind k) r (drop r P.roles) ≡ only counts (numbers r n)
+  from_role r zero e = let past : length P.roles ≤ r = omega arith in rw (drop_of_length-le P.roles past)
+  from_role r (suc n) e = go (of_kind k (get_or P.roles r no_role)) refl (rw add-one (from_role (suc r) n (omega arith)))
+    where
+      inside : r < length P.roles
+      inside = omega arith
+
+      same : counts r ≡ of_kind k (get_or P.roles r no_role)
+      same = ap (λ (n : ℕ). eqb n k) (role-kind L r inside)
+
+      go : (b : Bool) → of_kind k (get_or P.roles r no_role) ≡ b → places (of_kind k) (r + 1) (drop (r + 1) P.roles) ≡ only counts (numbers (suc r) n)
+          → places (of_kind k) r (drop r P.roles) ≡ cond (counts r) (r ∷ only counts (numbers (suc r) n)) (only counts (numbers (suc r) n))
+      go true t rest-is = rw (same, t) (places_here (of_kind k) no_role r P.roles inside t ∙ ap (λ (l : List ℕ). r ∷ l) rest-is)
+      go false t rest-is = rw (same, t) (places-not (of_kind k) no_role r P.roles inside t ∙ rest-is)
+
+  pub choices_begin : (part : List ℕ) → length (choices P k) ≤ length part → Written (choices P k) 1 (set part 0 none) (only counts (numbers 0 (role_count s)))
   unfolding choices
-  choices_begin part room = written_more {at = 0} {part = part} none _ room (record { inside = zero-le; is = refl })
-
-  module _ {at : ℕ} {part : List ℕ} (r : ℕ) (h : r < role_count s) (w : Written (choices P k) at part (places (of_kind k) r (drop r P.roles))) where
-    inside : r < length P.roles
-    inside = omega (arith, role-count L)
-
-    pub choice-taken : length (choices P k) ≤ length part → role_kind s r ≡ k → Written (choices P k) (at + 1) (set part at r) (places (of_kind k) (r + 1) (drop (r + 1) P.roles))
-    choice-taken room e = written_more r _ room (rw (places_here (of_kind k) no_role r P.roles inside (eqb_of (sym (role-kind L r inside) ∙ e))) at w)
-
-    pub choice_passed : (role_kind s r ≡ k → ⊥) → Written (choices P k) at (set part at r) (places (of_kind k) (r + 1) (drop (r + 1) P.roles))
-    choice_passed other = written_kept r _ (rw (places-not (of_kind k) no_role r P.roles inside (ne_eqb _ k (λ e. other (role-kind L r inside ∙ e)))) at w)
-
-  pub choices-end : {at : ℕ} {part : List ℕ} (r : ℕ) → role_count s ≤ r → Written (choices P k) at part (places (of_kind k) r (drop r P.roles)) → Front (choices P k) part
-  choices-end r h w =
-      let past : length P.roles ≤ r = omega (arith, role-count L) in
-      written-end (rw (drop_of_length-le P.roles past) at w)
+  choices_begin part room = rw (← from_role 0 (role_count s) (omega (arith, role-count L))) (written_more {at = 0} {part = part} none _ room (record { inside = zero-le; is = refl }))

@@ -1,21 +1,21 @@
 -- A list at the front of a part, as a loop writes it: what is written so far, and what is still to come.
 -- Assumes nothing.
 use mathlib.Core.Path.{◌≡◌, refl, sym, ap, ◌∙◌}
-use mathlib.Core.List.{List, [], ◌∷◌, ◌++◌, append_assoc, append-nil}
+use mathlib.Core.Bool.{Bool, true, false, not, cond}
+use mathlib.Core.List.{List, [], ◌∷◌, append_assoc, append-nil}
 use Prim.Native.Nat.{ℕ, zero, suc, ◌+◌, ◌≤◌, ◌<◌}
 use native.Mathlib.Nat.{le_refl, not-suc-le-zero, le_of_suc-le-suc}
 use native.Mathlib.Numerals.{add-one}
 use native.Mathlib.Omega.{arith}
 use lib.ListN.{length, get_or, take, set, length-append, length-set}
 use lib.Seq.{take-set-le, take-suc-set, length-take-le, get_or-take}
-use Rattle.gran.specs.Lists.{none}
+use Rattle.std.proofs.lemmas.Bool.Decides.{nat_tests}
+use lib.Dec.{ltb}
+use Rattle.std.specs.Prelude.{Option, Some, None, unwrap_or}
+use Rattle.std.specs.List.{position_or_len, position}
+use Rattle.gran.specs.Lists.{none, place}
 use Rattle.tables.specs.Tables.{cell}
-use Rattle.tables.specs.Regions.{Front}
-
--- The first `at` cells, and what is still to come, are the list.
-pub record Written (whole : List ℕ) (at : ℕ) (part more : List ℕ) : Type 0 where
-  pub inside : at ≤ length part
-  pub is : take at part ++ more ≡ whole
+use Rattle.tables.specs.Regions.{Front, Written}
 
 module _ {whole : List ℕ} {at : ℕ} {part : List ℕ} where
   -- A number more, where there is room.
@@ -46,3 +46,26 @@ get_d_any (x ∷ xs) (suc j) d e h = get_d_any xs j d e (le_of_suc-le-suc h)
 pub front_at : (xs part : List ℕ) (j : ℕ) → Front xs part → length xs ≤ length part → j < length xs → cell part j ≡ get_or xs j none
 front_at xs part j front room h =
     sym (get_or-take (length xs) part j 0 h) ∙ ap (λ (l : List ℕ). get_or l j 0) (front room) ∙ get_d_any xs j 0 none h
+
+-- ---- the place of the first that passes
+
+module _ {A : Type 0} (test : A → Bool) where
+  place_prefix : (k : ℕ) (xs : List A) → place test k xs ≡ cond (ltb (position_or_len test xs) (length xs)) (k + position_or_len test xs) none
+  place_prefix k [] = refl
+  place_prefix k (x ∷ xs) = go (test x) (place_prefix (suc k) xs)
+    where
+      n : ℕ
+      n = position_or_len test xs
+
+      go : (b : Bool) → place test (suc k) xs ≡ cond (ltb n (length xs)) (suc k + n) none
+          → cond b k (place test (suc k) xs) ≡ cond (ltb (cond (not b) (1 + n) 0) (length (x ∷ xs))) (k + cond (not b) (1 + n) 0) none
+      go true e = grind (arith, nat_tests)
+      go false e = grind (arith, nat_tests, e)
+
+  -- what a position is, or none
+  pub place_position : (xs : List A) (r : Option ℕ) → r ≡ position test xs → place test 0 xs ≡ unwrap_or r none
+  place_position xs r e = rw e (place_prefix 0 xs ∙ go (ltb (position_or_len test xs) (length xs)))
+    where
+      go : (b : Bool) → cond b (0 + position_or_len test xs) none ≡ unwrap_or (cond b (Some (position_or_len test xs)) None) none
+      go true = omega arith
+      go false = refl

@@ -3,7 +3,6 @@
 use mathlib.Core.Path.{◌≡◌, ap, ◌∙◌}
 use mathlib.Core.List.{List}
 use Prim.Native.Nat.{ℕ, ◌+◌, ◌*◌, ◌-◌, ◌%◌, ◌≤◌, ◌<◌}
-use native.Mathlib.Nat.{mul-le-mul_right}
 use native.Mathlib.Omega.{arith}
 use lib.Arith.{digits_div, digits_mod}
 use lib.ListN.{length}
@@ -13,10 +12,6 @@ use Rattle.tables.specs.Tables.{cell}
 use Rattle.tables.specs.Regions.{holds, Choice, Offers, offers, rows_for}
 use Rattle.tables.proofs.Front.{front_at}
 use Rattle.tables.proofs.Choices.{choice_is}
-
--- No more than 255 rows of at most 16 choices.
-pub few-cells : (rows w : ℕ) → rows < 256 → w ≤ 16 → rows * w ≤ 4080
-few-cells rows w h l = let r : rows ≤ 255 = omega arith in omega (arith, mul-le-mul_right w r)
 
 module _ (P : Policy) (k : ℕ) (cs : List ℕ) (row at : ℕ) (begins : at ≡ row * length cs) where
   pub offers_at : (j v : ℕ) → j < length cs → (row < rows_for P k → Choice P k (cell cs j) → holds v ≡ offers P k row (cell cs j)) → Offers k cs P (at + j) v

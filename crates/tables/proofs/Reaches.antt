@@ -19,6 +19,9 @@ use Rattle.gran.specs.Abstract.{id_for, reaches}
 use Rattle.store.specs.Held.{Loaded}
 use Rattle.fields.specs.Fields.{role_id}
 use Rattle.fields.proofs.Roles.{role-id}
+use Rattle.ids.specs.Ids.{kind_of}
+use Rattle.ids.specs.declared.Ids.{Ids}
+use Rattle.ids.specs.declared.Ids.TheVariants.{Users, Groups}
 use Rattle.tables.specs.Regions.{Named, Choice}
 
 -- The place of the one that passes and has a key, where keys are distinct among those that pass.
@@ -64,6 +67,11 @@ module _ (P : Policy) (k : ℕ) (a : Allowed) (r : ℕ) (h : r < length P.roles)
       rw (some, own-role dis, eqb_of {m = r} refl) (and-true (allows a (get_or P.roles r no_role).id))
 
 -- ---- in a loaded store
+
+-- Ids are those of user or group roles.
+pub named : (ids : Ids) → Named (kind_of ids)
+named Users = inl refl
+named Groups = inr refl
 
 pub few_roles : {P : Policy} → Good P → (k : ℕ) → Named k → length (roles_of P k) ≤ 15
 few_roles good k (inl e) = rw e good.few_users

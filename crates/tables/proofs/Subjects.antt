@@ -1,23 +1,26 @@
--- S as loops over the paths and the entries find it.
+-- The numbers that pass, as a loop writes them; S among the paths; the marks of the paths that an entry has as its subject.
 -- Assumes nothing.
-use mathlib.Core.Path.{◌≡◌, sym, ◌∙◌}
-use mathlib.Core.Bool.{Bool, false, So}
+use mathlib.Core.Path.{◌≡◌, refl, sym, ◌∙◌}
+use mathlib.Core.Bool.{Bool, true, false, cond, ◌||◌, or-true, or-false, So}
 use mathlib.Core.List.{List, ◌∷◌}
-use Prim.Native.Nat.{ℕ, ◌+◌, ◌-◌, ◌≤◌, ◌<◌, zero-le}
-use native.Mathlib.Nat.{sub-zero}
+use Prim.Native.Nat.{ℕ, zero, suc, ◌+◌, ◌-◌, ◌≤◌, ◌<◌, zero-le}
+use native.Mathlib.Decide.{ℕ_discrete}
 use native.Mathlib.Omega.{arith}
-use lib.ListN.{length, get_or, set, length-map}
+use borrow.Author.Tests.{eq-eqb, ne_eqb}
+use lib.Dec.{eqb}
+use lib.ListN.{length, get_or, drop, set, length-map, replicate}
+use lib.Seq.{get_or-set_same, get_or-set_other}
 use Rattle.rows.proofs.Tables.{map_at}
-use Rattle.gran.specs.Lists.{only, numbers}
+use Rattle.gran.specs.Lists.{only, numbers, member}
 use Rattle.gran.specs.Policy.{Policy}
 use Rattle.gran.specs.Match.{is_subject, subjects, paths_of_s, subject_path, no_entry}
-use Rattle.gran.proofs.Lists.{numbers-next}
+use Rattle.gran.proofs.Lists.{numbers-next, any_next, any-end}
 use Rattle.store.specs.Held.{Loaded}
 use Rattle.fields.specs.Fields.{path_count, entry_count, entry_subject}
 use Rattle.fields.proofs.Header.{path-count, entry-count}
 use Rattle.fields.proofs.Entries.{entry-subject}
-use Rattle.tables.specs.Regions.{Front}
-use Rattle.tables.proofs.Front.{Written, written_more, written_kept, written-end}
+use Rattle.tables.specs.Regions.{Written}
+use Rattle.tables.proofs.Front.{written_more, written_kept}
 
 module _ (test : ℕ → Bool) (c n : ℕ) (h : c < n) where
   -- Those that pass from c on, where c passes and where it does not.
@@ -27,35 +30,43 @@ module _ (test : ℕ → Bool) (c n : ℕ) (h : c < n) where
   pub numbers-not : test c ≡ false → only test (numbers c (n - c)) ≡ only test (numbers (c + 1) (n - (c + 1)))
   numbers-not t = rw (numbers-next c n h, t)
 
--- ---- the loop over the paths
+-- One number more is written, and counts where it passes.
+pub passing_more : (test : ℕ → Bool) (c n : ℕ) {whole : List ℕ} {at : ℕ} {part : List ℕ} (b : Bool) → c < n → b ≡ test c → length whole ≤ length part → Written whole at part (only test (numbers c (n - c)))
+    → Written whole (cond b (at + 1) at) (set part at c) (only test (numbers (c + 1) (n - (c + 1))))
+passing_more test c n true h e room w = written_more c _ room (rw (numbers_here test c n h (sym e)) at w)
+passing_more test c n false h e room w = written_kept c _ (rw (numbers-not test c n h (sym e)) at w)
 
-module _ (P : Policy) where
-  -- The subjects among the paths from c on.
-  pub from_path : ℕ → List ℕ
-  from_path c = only (is_subject P) (numbers c (length P.paths - c))
-
-  pub subjects_begin : (part : List ℕ) → Written (paths_of_s P) 0 part (from_path 0)
-  unfolding paths_of_s from_path
-  subjects_begin part = record { inside = zero-le; is = rw (sub-zero (length P.paths)) }
+-- ---- S, among the paths
 
 module _ {P : Policy} {rest s : List ℕ} (L : Loaded P rest s) where
-  module _ {at : ℕ} {part : List ℕ} (c : ℕ) (h : c < path_count s) (w : Written (paths_of_s P) at part (from_path P c)) where
-    inside : c < length P.paths
-    inside = omega (arith, path-count L)
+  pub subjects_begin : (part : List ℕ) → Written (paths_of_s P) 0 part (only (is_subject P) (numbers 0 (path_count s)))
+  unfolding paths_of_s
+  subjects_begin part = record { inside = zero-le; is = rw (path-count L) }
 
-    pub subject-taken : length (paths_of_s P) ≤ length part → So (is_subject P c) → Written (paths_of_s P) (at + 1) (set part at c) (from_path P (c + 1))
-    unfolding from_path
-    subject-taken room t = written_more c _ room (rw (numbers_here (is_subject P) c (length P.paths) inside t) at w)
+-- ---- marks
 
-    pub subject_passed : is_subject P c ≡ false → Written (paths_of_s P) at (set part at c) (from_path P (c + 1))
-    unfolding from_path
-    subject_passed t = written_kept c _ (rw (numbers-not (is_subject P) c (length P.paths) inside t) at w)
+-- The numbers of xs up to place i are marked.
+abbrev pub Marked : List ℕ → List Bool → ℕ → Type 0
+Marked xs marks i = (s : ℕ) → member s xs ≡ (get_or marks s false || member s (drop i xs))
 
-  pub subjects-end : {at : ℕ} {part : List ℕ} (c : ℕ) → path_count s ≤ c → Written (paths_of_s P) at part (from_path P c) → Front (paths_of_s P) part
-  unfolding from_path
-  subjects-end c h w =
-      let past : length P.paths - c ≡ 0 = omega (arith, path-count L) in
-      written-end (rw past at w)
+pub marks_begin : (xs : List ℕ) (n : ℕ) → Marked xs (replicate n false) 0
+marks_begin xs n s = rw (none n s)
+  where
+    none : (n s : ℕ) → get_or (replicate n false) s false ≡ false
+    none zero s = refl
+    none (suc n) zero = refl
+    none (suc n) (suc s) = none n s
+
+module _ (xs : List ℕ) (marks : List Bool) (i : ℕ) (marked : Marked xs marks i) where
+  pub marks-next : i < length xs → (x : ℕ) → x ≡ get_or xs i 0 → x < length marks → Marked xs (set marks x true) (i + 1)
+  marks-next h x e l s = go (ℕ_discrete s x)
+    where
+      go : Dec (s ≡ x) → member s xs ≡ (get_or (set marks x true) s false || member s (drop (i + 1) xs))
+      go (yes p) = marked s ∙ rw (p, get_or-set_same marks x true false l, any_next (eqb x) xs i 0 h true (sym (eq-eqb x _ e))) (or-true (get_or marks x false))
+      go (no d) = marked s ∙ rw (get_or-set_other marks x s true false d, any_next (eqb s) xs i 0 h false (sym (ne_eqb s _ (λ p. d (p ∙ sym e)))))
+
+  pub marks-end : length xs ≤ i → (s : ℕ) → member s xs ≡ get_or marks s false
+  marks-end h s = marked s ∙ rw (any-end (eqb s) xs i h) (or-false _)
 
 -- ---- the loop over the entries
 

@@ -1,6 +1,6 @@
 -- What each part of the tables is filled with: what the functions that fill them promise of a loaded store.
 -- Assumes nothing.
-use Rattle.std.specs.Prelude.{◌≡◌, ◌⊎◌, Bool, not, cond, List, ℕ, ◌+◌, ◌*◌, ◌/◌, ◌%◌, ◌≤◌, ◌<◌, eqb, length, get_or, take, drop}
+use Rattle.std.specs.Prelude.{◌≡◌, ◌⊎◌, Bool, not, cond, List, ◌++◌, ℕ, ◌+◌, ◌*◌, ◌/◌, ◌%◌, ◌≤◌, ◌<◌, eqb, length, get_or, take, drop}
 use Rattle.std.proofs.Math.Bool.{So}
 use Rattle.gran.specs.Lists.{none, place}
 use Rattle.gran.specs.Policy.{Policy, USER, GROUP, SPECIAL}
@@ -12,15 +12,19 @@ use Rattle.gran.specs.Reach.{Question}
 use Rattle.runs.specs.Steps.{choices}
 use Rattle.store.specs.Held.{Loaded}
 use Rattle.lookup.specs.Lookup.{entry_at, Graded, InForce, Placed}
-use Rattle.ids.specs.Ids.{allowed_of}
+use Rattle.ids.specs.Ids.{kind_of, allowed_of}
 use Rattle.tables.specs.Tables.{cell}
+use Rattle.tables.specs.declared.Kind.{Kind}
+use Rattle.tables.specs.declared.Kind.TheVariants.{Special, Of}
 
--- A byte as a test, and a test as a byte.
+-- A byte as a test.
 unfoldable pub holds : ℕ → Bool
 holds v = not (eqb v 0)
 
-abbrev pub flag_of : Bool → ℕ
-flag_of b = cond b 1 0
+-- The first `at` cells, and what is still to come, are the list.
+pub record Written (whole : List ℕ) (at : ℕ) (part more : List ℕ) : Type 0 where
+  pub inside : at ≤ length part
+  pub is : take at part ++ more ≡ whole
 
 -- The list stands at the front of a part that has room for it.
 abbrev pub Front : List ℕ → List ℕ → Type 0
@@ -37,6 +41,11 @@ Stands subjects P c v = subjects ≡ paths_of_s P → v ≡ place (eqb (subject_
 -- Cell e: entry e grants the access to the file that has the grades.
 abbrev pub Grants : ℕ → List ℕ → Policy → ℕ → ℕ → Type 0
 Grants kind grades P e v = (f : List ℕ) → Graded P f grades → e < length P.entries → holds v ≡ grants P kind (entry_at P e) f
+
+-- The kind of roles that a choice is of, as the store has it.
+abbrev pub role_kind_of : Kind → ℕ
+role_kind_of Special = SPECIAL
+role_kind_of (Of ids) = kind_of ids
 
 -- The kind of user or group roles, and a choice of a kind: none, or a role of it.
 abbrev pub Named : ℕ → Type 0

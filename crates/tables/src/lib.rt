@@ -2,11 +2,10 @@
 // What a reader must believe stands in specs/Tables.antt: `Tabled`. specs/Regions.antt says what each part is filled with.
 #![tactic(auto)]
 
-ghost use Rattle.std.specs.Prelude.{◌≡◌, List, ℕ, ◌+◌, ◌*◌, ◌≤◌, ◌<◌, eqb, length};
-ghost use Rattle.gran.specs.Lists.{place};
-ghost use Rattle.gran.specs.Policy.{Policy, SPECIAL};
+ghost use Rattle.std.specs.Prelude.{◌≡◌, Bool, false, List, ℕ, ◌+◌, ◌*◌, ◌≤◌, ◌<◌, eqb, length, get_or};
+ghost use Rattle.gran.specs.Lists.{only, numbers, place};
+ghost use Rattle.gran.specs.Policy.{Policy};
 ghost use Rattle.gran.specs.Match.{paths_of_s, is_subject};
-ghost use Rattle.gran.specs.Role.{allows};
 ghost use Rattle.gran.specs.Good.{roles_of};
 ghost use Rattle.gran.specs.Access.{grants};
 ghost use Rattle.gran.specs.Abstract.{reaches};
@@ -15,49 +14,68 @@ ghost use Rattle.store.specs.Held.{Loaded};
 ghost use Rattle.fields.specs.Fields.{path_count, entry_count};
 ghost use Rattle.lookup.specs.Index.{entry_index, object_index};
 ghost use Rattle.lookup.specs.Lookup.{entry_at, Graded};
-ghost use Rattle.ids.specs.Ids.{allowed_of};
-ghost use Rattle.tables.specs.Tables.{cell, Tabled};
-ghost use Rattle.tables.specs.Regions.{flag_of, Front, Region, Stands, Grants, Named, Choice, Counted, Offers, offers, rows_for, Lists, Tests, RowFilled, RowsFilled};
+ghost use Rattle.ids.specs.Ids.{kind_of, allowed_of};
+ghost use Rattle.tables.specs.Tables.{Tabled};
+ghost use Rattle.tables.specs.Regions.{Written, Front, Region, Stands, Grants, role_kind_of, Choice, Counted, Offers, offers, rows_for, Lists, Tests, RowFilled, RowsFilled};
 
-use ids::{GROUP, USER};
+use ids::Ids;
 use rows::put;
+use store::RoleKind;
 
 pub mod cell; // cell.rt: where cells stand, for those who read the tables
 
-// The kind of special roles.
-const SPECIAL: u8 = 0x73;
-
-// A test as a byte.
-fn flag(test: bool) -> u8
-    ensures { result ≡ flag_of test }
-{
-    if test { 1 } else { 0 }
+// Which roles a choice is of.
+#[derive(Clone, Copy)]
+enum Kind {
+    Special,
+    // Those that have the ids.
+    Of(Ids),
 }
 
-// None, then the roles of a kind by number. What is written behind them is no choice.
-fn fill_choices(store: &[u8], kind: u8, part: &mut [u8])
-    ensures { (P : Policy) (rest : List ℕ) → Loaded P rest store.now → Front (choices P kind) part.new }
+impl Kind {
+    // The kind of these roles, as the store has it.
+    fn byte(self) -> u8
+        ensures { result ≡ role_kind_of self }
+    {
+        match self {
+            Kind::Special => RoleKind::Special.code(),
+            Kind::Of(ids) => ids.kind(),
+        }
+    }
+}
+
+// Writes the numbers below `count` that pass, in order, from `at` on. What is written behind them is none of them.
+fn fill_passing<F: Fn(u8) -> bool>(count: u8, passes: F, mut at: usize, part: &mut [u8])
+    requires callable { (i : ℕ) → i < count → F.pre passes i }
+    requires near { at < 256 }
+    ensures { (test : ℕ → Bool) (whole : List ℕ) → ((i : ℕ) (b : Bool) → i < count → F.post passes i b → b ≡ test i) → length whole ≤ length part.old → Written whole at part.old (only test (numbers 0 count)) → Front whole part.new }
 {
-    put(part, 0, gran::NONE);
-    let count = fields::role_count(store);
-    let mut at: usize = 1;
-    for r in 0..count {
-        put(part, at, r);
-        if fields::role_kind(store, r) == kind {
+    for i in 0..count {
+        put(part, at, i);
+        if passes(i) {
             at += 1;
         }
     }
 }
 
-// For each number that a path can have a mark, set where some entry has that path as its subject.
-fn subject_marks(store: &[u8]) -> [u8; 256]
-    ensures { (P : Policy) (rest : List ℕ) → Loaded P rest store.now → (c : ℕ) → is_subject P c ≡ eqb (cell result c) 1 }
+// None, then the roles of a kind by number. What is written behind them is no choice.
+fn fill_choices(store: &[u8], kind: Kind, part: &mut [u8])
+    ensures { (P : Policy) (rest : List ℕ) → Loaded P rest store.now → Front (choices P (role_kind_of kind)) part.new }
 {
-    let mut marks = [0u8; 256];
-    let count = fields::entry_count(store);
-    for e in 0..count {
+    put(part, 0, gran::NONE);
+    let wanted = kind.byte();
+    let count = fields::role_count(store);
+    fill_passing(count, |r| fields::role_kind(store, r) == wanted, 1, part);
+}
+
+// For each number that a path can have whether some entry has that path as its subject. (A load marks them by its tallies: `ending`.)
+fn subject_marks(store: &[u8]) -> [bool; 256]
+    ensures { (P : Policy) (rest : List ℕ) → Loaded P rest store.now → (c : ℕ) → is_subject P c ≡ get_or result c false }
+{
+    let mut marks = [false; 256];
+    for e in 0..fields::entry_count(store) {
         let c = fields::entry_subject(store, e);
-        marks[c as usize] = 1;
+        marks[usize::from(c)] = true;
     }
     marks
 }
@@ -67,50 +85,34 @@ fn fill_subjects(store: &[u8], part: &mut [u8])
     ensures { (P : Policy) (rest : List ℕ) → Loaded P rest store.now → Front (paths_of_s P) part.new }
 {
     let marks = subject_marks(store);
-    let count = fields::path_count(store);
-    let mut at: usize = 0;
-    for c in 0..count {
-        put(part, at, c);
-        if marks[c as usize] == 1 {
-            at += 1;
-        }
-    }
+    fill_passing(
+        fields::path_count(store),
+        |c| marks[usize::from(c)],
+        0,
+        part,
+    );
 }
 
-// The place of `c` in the list, or none.
+// The place of `c` in the list, or none: a number, as the tables hold it and as `place` says it.
 pub fn place_in(list: &[u8], c: u8) -> u8
     requires { length list.now ≤ 64 }
     ensures { result ≡ place (eqb c) 0 list.now }
 {
-    let mut i: u8 = 0;
-    while (i as usize) < list.len() {
-        if c == list[i as usize] {
-            return i;
-        }
-        i += 1;
+    match list.iter().position(|x| c == *x) {
+        Some(i) => i as u8,
+        None => gran::NONE,
     }
-    gran::NONE
 }
 
-// The lists: special roles, users, groups, subjects.
+// The lists: special roles, users, groups, subjects. One slice of 96 places, since its parts are lent one by one and it is copied whole.
 fn fill_lists(store: &[u8], lists: &mut [u8])
     requires { length lists.old ≡ 96 }
     ensures { (P : Policy) (rest : List ℕ) → Loaded P rest store.now → Lists P lists.new }
 {
-    fill_choices(store, SPECIAL, &mut lists[0..8]);
-    fill_choices(store, USER, &mut lists[8..24]);
-    fill_choices(store, GROUP, &mut lists[24..32]);
+    fill_choices(store, Kind::Special, &mut lists[0..8]);
+    fill_choices(store, Kind::Of(Ids::Users), &mut lists[8..24]);
+    fill_choices(store, Kind::Of(Ids::Groups), &mut lists[24..32]);
     fill_subjects(store, &mut lists[32..96]);
-}
-
-// Copies the bytes.
-fn copy(from: &[u8], part: &mut [u8])
-    requires { length part.old ≡ length from.now }
-    ensures { part.new ≡ from.now }
-{
-    for i in 0..from.len() {
-        part[i] = from[i];
-    }
 }
 
 // The place among the subjects of the one that path `c` stands for; a subject stands for itself, and is not matched again.
@@ -129,10 +131,8 @@ fn fill_stands(store: &[u8], subjects: &[u8], part: &mut [u8])
     requires { length subjects.now ≤ 64 }
     ensures { Region store.now (Stands subjects.now) (path_count store.now) part.new }
 {
-    let count = fields::path_count(store);
-    for c in 0..count {
-        let v = stand(store, subjects, c);
-        put(part, c as usize, v);
+    for c in 0..fields::path_count(store) {
+        put(part, usize::from(c), stand(store, subjects, c));
     }
 }
 
@@ -150,102 +150,71 @@ fn grants_in(store: &[u8], of: &[u8], kind: u8, e: u8) -> bool
 fn fill_grants(store: &[u8], of: &[u8], kind: u8, part: &mut [u8])
     ensures { Region store.now (Grants kind of.now) (entry_count store.now) part.new }
 {
-    let count = fields::entry_count(store);
-    for e in 0..count {
+    for e in 0..fields::entry_count(store) {
         let test = grants_in(store, of, kind, e);
-        put(part, e as usize, flag(test));
+        put(part, usize::from(e), u8::from(test));
     }
 }
 
-// Whether entry `e` allows the id, as a user for kind user, else as a group.
-fn allows_id(store: &[u8], kind: u8, e: u8, id: u32) -> bool
-    ensures { (P : Policy) (rest : List ℕ) → Loaded P rest store.now → e < length P.entries → result ≡ allows (allowed_of kind (entry_at P e)) id }
-{
-    if kind == USER {
-        ids::allows_user(store, e, id)
-    } else {
-        ids::allows_group(store, e, id)
-    }
-}
-
-// Whether entry `e` allows an id that has the choice, a role of the kind or none.
-fn reach(store: &[u8], kind: u8, e: u8, choice: u8) -> bool
-    requires { Named kind }
-    ensures { (P : Policy) (rest : List ℕ) → Loaded P rest store.now → e < length P.entries → Choice P kind choice → result ≡ reaches P kind (allowed_of kind (entry_at P e)) choice }
+// Whether entry `e` allows an id that has the choice, a role that has such ids or none.
+fn reach(store: &[u8], ids: Ids, e: u8, choice: u8) -> bool
+    ensures { (P : Policy) (rest : List ℕ) → Loaded P rest store.now → e < length P.entries → Choice P (kind_of ids) choice → result ≡ reaches P (kind_of ids) (allowed_of (kind_of ids) (entry_at P e)) choice }
 {
     if choice == gran::NONE {
-        return ids::has_free(store, kind, e);
+        return ids::has_free(store, ids.kind(), e);
     }
-    allows_id(store, kind, e, fields::role_id(store, choice))
+    ids::allows(store, ids, e, fields::role_id(store, choice))
 }
 
 // Whether a row has the choice: a role may take the special role, an entry allows an id that has the user or group role.
 #[tactic(auto, unfolding(crate::specs::Regions::offers, crate::specs::Regions::rows_for))]
-fn offered(store: &[u8], kind: u8, row: u8, choice: u8) -> bool
-    requires { (kind ≡ SPECIAL → ⊥) → Named kind }
-    ensures { (P : Policy) (rest : List ℕ) → Loaded P rest store.now → row < rows_for P kind → Choice P kind choice → result ≡ offers P kind row choice }
+fn offered(store: &[u8], kind: Kind, row: u8, choice: u8) -> bool
+    ensures { (P : Policy) (rest : List ℕ) → Loaded P rest store.now → row < rows_for P (role_kind_of kind) → Choice P (role_kind_of kind) choice → result ≡ offers P (role_kind_of kind) row choice }
 {
-    if kind == SPECIAL {
-        return ids::may_take(store, row, choice);
+    match kind {
+        Kind::Special => ids::may_take(store, row, choice),
+        Kind::Of(ids) => reach(store, ids, row, choice),
     }
-    reach(store, kind, row, choice)
 }
 
 // How many roles there are of a kind.
-fn roles_of(store: &[u8], kind: u8) -> u8
-    requires { (kind ≡ SPECIAL → ⊥) → Named kind }
-    ensures { (P : Policy) (rest : List ℕ) → Loaded P rest store.now → result ≡ length (roles_of P kind) }
+fn roles_of(store: &[u8], kind: Kind) -> u8
+    ensures { (P : Policy) (rest : List ℕ) → Loaded P rest store.now → result ≡ length (roles_of P (role_kind_of kind)) }
 {
-    if kind == SPECIAL {
-        return fields::special_count(store);
+    match kind {
+        Kind::Special => fields::special_count(store),
+        Kind::Of(Ids::Users) => fields::user_count(store),
+        Kind::Of(Ids::Groups) => fields::group_count(store),
     }
-    if kind == USER {
-        return fields::user_count(store);
-    }
-    fields::group_count(store)
 }
 
 // How many of the first cells of a list may hold a choice of the kind: none and its roles, as far as there is room.
-fn choice_count(store: &[u8], kind: u8, room: usize) -> usize
-    requires { (kind ≡ SPECIAL → ⊥) → Named kind }
-    ensures { (result ≤ room) × Counted store.now kind room result }
+fn choice_count(store: &[u8], kind: Kind, room: usize) -> usize
+    ensures { (result ≤ room) × Counted store.now (role_kind_of kind) room result }
 {
-    let count = 1 + roles_of(store, kind) as usize;
-    if count < room { count } else { room }
+    room.min(1 + usize::from(roles_of(store, kind)))
 }
 
-// Which of the first `count` choices a row has, in the cells from `at` on.
-fn fill_offer_row(
-    store: &[u8],
-    kind: u8,
-    row: u8,
-    choices: &[u8],
-    count: usize,
-    at: usize,
-    part: &mut [u8],
-)
-    requires named { (kind ≡ SPECIAL → ⊥) → Named kind }
-    requires at_value { (at ≡ row * length choices.now) × (length choices.now ≤ 16) × (count ≤ length choices.now) }
-    ensures { Counted store.now kind (length choices.now) count → Region store.now (Offers kind choices.now) at part.old → Region store.now (Offers kind choices.now) (at + length choices.now) part.new }
+// Which of the first `count` choices a row has, in its cells: a row has one for each place of the list.
+fn fill_offer_row(store: &[u8], kind: Kind, row: u8, choices: &[u8], count: usize, part: &mut [u8])
+    requires { (length choices.now ≤ 16) × (count ≤ length choices.now) }
+    ensures { Counted store.now (role_kind_of kind) (length choices.now) count → Region store.now (Offers (role_kind_of kind) choices.now) (row * length choices.now) part.old → Region store.now (Offers (role_kind_of kind) choices.now) (row * length choices.now + length choices.now) part.new }
 {
-    for j in 0..count {
-        let test = offered(store, kind, row, choices[j]);
-        put(part, at + j, flag(test));
+    let first = usize::from(row) * choices.len();
+    for (j, choice) in choices[..count].iter().enumerate() {
+        let test = offered(store, kind, row, *choice);
+        put(part, first + j, u8::from(test));
     }
 }
 
-// For each of the rows which of the choices it has. A row has a cell for each place of the list; those behind the choices are left.
-fn fill_offers(store: &[u8], kind: u8, rows: u8, choices: &[u8], part: &mut [u8])
-    requires named { (kind ≡ SPECIAL → ⊥) → Named kind }
-    requires choices_len_bound { length choices.now ≤ 16 }
-    ensures { Region store.now (Offers kind choices.now) (rows * length choices.now) part.new }
+// For each of the rows which of the choices it has. The cells behind the choices are left.
+fn fill_offers(store: &[u8], kind: Kind, rows: u8, choices: &[u8], part: &mut [u8])
+    requires { length choices.now ≤ 16 }
+    ensures { Region store.now (Offers (role_kind_of kind) choices.now) (rows * length choices.now) part.new }
 {
-    let width = choices.len();
-    let count = choice_count(store, kind, width);
-    let mut at: usize = 0;
+    let count = choice_count(store, kind, choices.len());
     for row in 0..rows {
-        fill_offer_row(store, kind, row, choices, count, at, part);
-        at += width;
+        fill_offer_row(store, kind, row, choices, count, part);
     }
 }
 
@@ -256,13 +225,11 @@ fn fill_row(store: &[u8], entries: &[u8], objects: &[u8], c: u8, k: usize, part:
     requires part_len { length part.old ≡ 6144 }
     ensures { RowFilled store.now c k part.old part.new }
 {
-    let mut force = [0; 32];
-    let mut places = [0; 64];
-    lookup::rows_of(store, entries, objects, c, &mut force, &mut places);
+    let rows = lookup::rows_of(store, entries, objects, c);
     let at = 32 * k;
-    copy(&force, &mut part[at..at + 32]);
+    part[at..at + 32].copy_from_slice(&rows.force);
     let behind = 2048 + 64 * k;
-    copy(&places, &mut part[behind..behind + 64]);
+    part[behind..behind + 64].copy_from_slice(&rows.places);
 }
 
 // The rows of all subjects.
@@ -275,8 +242,8 @@ fn fill_rows(store: &[u8], subjects: &[u8], part: &mut [u8])
     lookup::index_entries(store, &mut entries);
     let mut objects = [gran::NONE; 6144];
     lookup::index_objects(store, &mut objects);
-    for k in 0..subjects.len() {
-        fill_row(store, &entries, &objects, subjects[k], k, part);
+    for (k, c) in subjects.iter().enumerate() {
+        fill_row(store, &entries, &objects, *c, k, part);
     }
 }
 
@@ -286,16 +253,32 @@ fn fill_tests(store: &[u8], target: &[u8], kind: u8, lists: &[u8], part: &mut [u
     requires part_len { length part.old ≡ 1856 }
     ensures { (P : Policy) (rest : List ℕ) → Loaded P rest store.now → Lists P lists.now → Tests P (record { kind = kind; target = target.now }) part.new }
 {
-    let g = lookup::grades_for(store, target);
-    let of = g.of;
+    let grades = lookup::grades_for(store, target);
     let roles = fields::role_count(store);
     let entries = fields::entry_count(store);
-    let fallback = ids::default_role(store);
-    fill_grants(store, &of, kind, &mut part[0..64]);
-    fill_offers(store, SPECIAL, roles, &lists[0..8], &mut part[64..304]);
-    put(&mut part[304..320], 0, fallback);
-    fill_offers(store, GROUP, entries, &lists[24..32], &mut part[320..832]);
-    fill_offers(store, USER, entries, &lists[8..24], &mut part[832..1856]);
+    fill_grants(store, &grades.of, kind, &mut part[0..64]);
+    fill_offers(
+        store,
+        Kind::Special,
+        roles,
+        &lists[0..8],
+        &mut part[64..304],
+    );
+    put(&mut part[304..320], 0, ids::default_role(store));
+    fill_offers(
+        store,
+        Kind::Of(Ids::Groups),
+        entries,
+        &lists[24..32],
+        &mut part[320..832],
+    );
+    fill_offers(
+        store,
+        Kind::Of(Ids::Users),
+        entries,
+        &lists[8..24],
+        &mut part[832..1856],
+    );
 }
 
 // All tables, from the lists. A loaded store has at most 64 subjects.
@@ -304,12 +287,9 @@ fn fill_from(store: &[u8], target: &[u8], kind: u8, lists: &[u8], t: &mut [u8])
     requires t_len { length t.old ≡ 8192 }
     ensures { (P : Policy) (rest : List ℕ) → Loaded P rest store.now → Lists P lists.now → Tabled P (record { kind = kind; target = target.now }) t.new }
 {
-    let count = fields::subject_count(store) as usize;
-    if 64 < count {
-        return;
-    }
+    let count = usize::from(fields::subject_count(store).min(64));
     let subjects = &lists[32..32 + count];
-    copy(lists, &mut t[0..96]);
+    t[0..96].copy_from_slice(lists);
     fill_stands(store, subjects, &mut t[96..192]);
     fill_tests(store, target, kind, lists, &mut t[192..2048]);
     fill_rows(store, subjects, &mut t[2048..8192]);

@@ -5,11 +5,11 @@ use borrow.Author.Tests.{ne_eqb}
 use mathlib.Core.Path.{◌≡◌, refl, sym, ap, subst, ◌∙◌}
 use mathlib.Core.Bool.{Bool, So, true, false, not, cond, ◌&&◌, and-eq-true_iff}
 use mathlib.Core.List.{List, [], append-nil}
-use Prim.Native.Nat.{ℕ, ◌<◌}
+use Prim.Native.Nat.{ℕ, zero, suc, ◌<◌}
 use native.Mathlib.Omega.{arith}
 use native.Mathlib.Decide.{ℕ_discrete}
 use lib.Dec.{eqb}
-use lib.ListN.{length, get_or, set, take}
+use lib.ListN.{length, get_or, set, take, replicate}
 use lib.Seq.{take-length, get_or-set_other}
 use Rattle.gran.specs.Policy.{EXEC}
 use Rattle.gran.specs.Access.{sees}
@@ -151,11 +151,16 @@ module _ {t : List ℕ} {z : Sizes} {d : Digits} {e i c p : ℕ} {w : Walk} (goa
 
 -- ---- the flags
 
-module _ {s t : List ℕ} {z : Sizes} where
-  pub none-set : {flags : List ℕ} (w : Walk) → ((i : ℕ) → get_or flags i 0 ≡ 0) → Opened s t z flags w
-  none-set w none = record { entry = λ e r small flag. absurd (omega (arith, flag, none (flag_at r e))) }
+pub unset : (n i : ℕ) → get_or (replicate n false) i false ≡ false
+unset zero i = refl
+unset (suc n) zero = refl
+unset (suc n) (suc i) = unset n i
 
-  module _ {flags : List ℕ} {w : Walk} (opened : Opened s t z flags w) {p : ℕ} (going : Going z p w) (goal : ℕ → Bool) where
+module _ {s t : List ℕ} {z : Sizes} where
+  pub none-set : {flags : List Bool} (w : Walk) → ((i : ℕ) → get_or flags i false ≡ false) → Opened s t z flags w
+  none-set w none = record { entry = λ e r small flag. let off = none (flag_at r e) in cc }
+
+  module _ {flags : List Bool} {w : Walk} (opened : Opened s t z flags w) {p : ℕ} (going : Going z p w) (goal : ℕ → Bool) where
     opened_on : (xs : List Step) → Inside z xs → {then : Walk} → then ≡ visits goal p xs w → Opened s t z flags then
     opened_on xs inside is = record { entry = λ e r small flag. entry_on going goal xs inside is (opened.entry e r small flag) }
 
@@ -165,7 +170,7 @@ module _ {s t : List ℕ} {z : Sizes} where
 
     module _ (d : Digits) (among : Among z d) (e : ℕ) (small : e < 256) where
       -- The flag may be set once the execs of one state were gone through.
-      pub opened_more : {then : Walk} → then ≡ visits goal p (object_steps s t z d e) w → Opened s t z (set flags (flag_at d.special e) 1) then
+      pub opened_more : {then : Walk} → then ≡ visits goal p (object_steps s t z d e) w → Opened s t z (set flags (flag_at d.special e) true) then
       opened_more {then} is = record { entry = λ e₁ r small₁ flag. go e₁ r small₁ flag (ℕ_discrete (flag_at r e₁) (flag_at d.special e)) }
         where
           all : then.met ≡ false → Each (Marked then.area) (object_steps s t z d e)
@@ -177,16 +182,16 @@ module _ {s t : List ℕ} {z : Sizes} where
             object = λ i lt modes. record { found = λ to same l unmet. of_users t z d e (Marked then.area) i (object_path_at s e i) (of_objects t z d e (Marked then.area) s (all unmet) i lt modes) to l same };
           }
 
-          go : (e₁ r : ℕ) → e₁ < 256 → get_or (set flags (flag_at d.special e) 1) (flag_at r e₁) 0 ≡ 1 → Dec (flag_at r e₁ ≡ flag_at d.special e) → EntryDone s t z e₁ r then
+          go : (e₁ r : ℕ) → e₁ < 256 → get_or (set flags (flag_at d.special e) true) (flag_at r e₁) false ≡ true → Dec (flag_at r e₁ ≡ flag_at d.special e) → EntryDone s t z e₁ r then
           go e₁ r small₁ flag (yes same) =
               let entry : e ≡ e₁ = omega arith in
               let special : d.special ≡ r = omega arith in
               subst (λ (m : ℕ). EntryDone s t z m r then) entry (subst (λ (m : ℕ). EntryDone s t z e m then) special done)
           go e₁ r small₁ flag (no other) =
-              (opened_on (object_steps s t z d e) (inside_objects s t among e) is).entry e₁ r small₁ (sym (get_or-set_other flags (flag_at d.special e) (flag_at r e₁) 1 0 other) ∙ flag)
+              (opened_on (object_steps s t z d e) (inside_objects s t among e) is).entry e₁ r small₁ (sym (get_or-set_other flags (flag_at d.special e) (flag_at r e₁) true false other) ∙ flag)
 
       -- Where it is set, and the entry allows the kept user and group, there is nothing new.
-      pub opened-again : get_or flags (flag_at d.special e) 0 ≡ 1 → So (is_set t (user_reach_cell e d.user) && is_set t (group_reach_cell e d.group)) → w ≡ visits goal p (object_steps s t z d e) w
+      pub opened-again : get_or flags (flag_at d.special e) false ≡ true → So (is_set t (user_reach_cell e d.user) && is_set t (group_reach_cell e d.group)) → w ≡ visits goal p (object_steps s t z d e) w
       opened-again flag kept =
           let both = (and-eq-true_iff (is_set t (user_reach_cell e d.user)) (is_set t (group_reach_cell e d.group))).0 kept in
           let done : EntryDone s t z e d.special w = opened.entry e d.special small flag in

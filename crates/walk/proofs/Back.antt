@@ -5,7 +5,7 @@ use mathlib.Core.List.{List, [], ◌∷◌, ◌++◌, append_assoc, append-nil}
 use Prim.Native.Nat.{ℕ, suc, ◌+◌, ◌-◌, ◌≤◌, ◌<◌}
 use native.Mathlib.Omega.{arith}
 use native.Mathlib.Numerals.{add-one}
-use lib.ListN.{length, get_or, set, drop, length-append, length-drop}
+use lib.ListN.{length, get_or, set, drop, length-append}
 use lib.Seq.{drop-cons, set_at}
 use borrow.Author.Tests.{eq-eqb, ne_eqb}
 use Rattle.walk.specs.Walk.{queued, mark, trail}
@@ -24,12 +24,6 @@ module _ (area : List ℕ) (k : ℕ) where
   starts was = record { done = []; size = refl; written = refl; left = refl; falls = omega arith }
 
   module _ (rooted : Rooted area k) {was is : List ℕ} (room : k ≤ length was) {at n : ℕ} (b : Back was is at n) where
-    pub back-length : length is ≡ length was
-    back-length =
-        let within : k < 8192 = omega (arith, rooted.within, rooted.few) in
-        let few : n + at ≤ k = b.falls in
-        ap length b.written ∙ length-append b.done (drop n was) ∙ rw (b.size, length-drop n was) (omega arith)
-
     pub goes_back : (at ≡ 0 → ⊥) → Back was (set is n at) (mark area (queued area at) - 1) (n + 1)
     unfolding trail
     goes_back nz =

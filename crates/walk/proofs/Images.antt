@@ -1,4 +1,4 @@
--- Those of a range that pass a test, collected: what a turn adds to them, and that to visit what each of the list gives is to visit what each of
+-- Those of a range that pass a test, listed: what one more adds to them, and that to visit what each of the list gives is to visit what each of
 -- the range that passes gives. So for the subjects of an image, and for the groups and the users that can follow.
 -- Assumes nothing.
 use mathlib.Core.Path.{◌≡◌, refl, sym, ap, subst, ◌∙◌}
@@ -9,18 +9,16 @@ use Prim.Native.Nat.{ℕ, zero, suc, ◌+◌, ◌*◌, ◌≤◌, ◌<◌}
 use native.Mathlib.Omega.{arith}
 use native.Mathlib.Numerals.{add-one}
 use lib.Dec.{eqb}
-use lib.ListN.{length, get_or, set, take, drop, length-append, length-drop}
-use lib.Seq.{length-take-le, get_or-take, drop-cons, set_at, get_or-append_seam}
+use lib.ListN.{length, get_or, take, length-append}
+use lib.Seq.{length-take-le, get_or-take, get_or-append_seam}
 use Rattle.gran.specs.Lists.{All, only, numbers}
-use Rattle.gran.proofs.Members.{all-mem, at_mem, only_of, only_le, only_append, numbers_of}
-use Rattle.gran.proofs.Counting.{numbers-length}
+use Rattle.gran.proofs.Members.{all-mem, at_mem, only_of, only_append, numbers_of}
 use Rattle.runs.specs.Steps.{each}
 use Rattle.tables.specs.Tables.{is_set, user_reach_cell}
 use Rattle.numbered.specs.Number.{number_of}
 use Rattle.numbered.specs.Candidates.{Step, offered, flat, with_user, with_subject, in_image, subject_step, by_subject, other_group, by_group, other_user, by_user}
 use Rattle.numbered.specs.declared.Sizes.{Sizes}
 use Rattle.numbered.specs.declared.Digits.{Digits}
-use Rattle.walk.specs.Walk.{Written}
 use Rattle.walk.specs.Image.{image_of, is_another, followers_of, users_after, groups_after, Below, to_group}
 
 -- ---- those of a range that pass, after what stands in front
@@ -43,8 +41,11 @@ module _ (front : List ℕ) (test : ℕ → Bool) where
       ∙ ap (λ (ms : List ℕ). front ++ ms) (only_append test (numbers 0 k) ((0 + k) ∷ []))
       ∙ rw (z, h) (sym (append_assoc front (only test (numbers 0 k)) (cond b (k ∷ []) [])))
 
-  pub listed_few : (n : ℕ) → length (listed n) ≤ length front + n
-  listed_few n = omega (arith, length-append front (only test (numbers 0 n)), only_le test (numbers 0 n), numbers-length 0 n)
+  pub listed_hit : (k : ℕ) → test k ≡ true → listed (k + 1) ≡ listed k ++ k ∷ []
+  listed_hit k = listed_more k true
+
+  pub listed_miss : (k : ℕ) → test k ≡ false → listed (k + 1) ≡ listed k
+  listed_miss k h = listed_more k false h ∙ append-nil (listed k)
 
   pub listed_lt : (n : ℕ) {xs : List ℕ} → xs ≡ listed n → All (λ (x : ℕ). x < n) front → (j : ℕ) → j < length xs → get_or xs j 0 < n
   listed_lt n {xs} is below j h =
@@ -53,47 +54,6 @@ module _ (front : List ℕ) (test : ℕ → Bool) where
       (λ m. all-mem (λ (x : ℕ). x < n) front below m)
       (λ m. omega (arith, numbers_of 0 n (only_of test (numbers 0 n) m).0))
       (mathlib.Core.List.Memᴰ.append_cases front m)
-
-  -- k were looked at, and n stand in the list.
-  pub record Collected (was is : List ℕ) (n k : ℕ) : Type 0 where
-    pub size : length (listed k) ≡ n
-    pub written : is ≡ listed k ++ drop n was
-
-  module _ {was is : List ℕ} {n k : ℕ} (so : Collected was is n k) where
-    pub collected_few : n ≤ length front + k
-    collected_few = omega (arith, so.size, listed_few k)
-
-    collect_hit : length front + k < length was → test k ≡ true → Collected was (set is n k) (n + 1) (k + 1)
-    collect_hit room h =
-        let few : n ≤ length front + k = collected_few in
-        let done : List ℕ = listed k in
-        record {
-          size = rw (listed_more k true h, length-append (listed k) (k ∷ []), so.size) refl;
-          written = ap (λ (l : List ℕ). set l n k) (so.written ∙ ap (λ (l : List ℕ). done ++ l) (drop-cons was n 0 (omega arith)))
-              ∙ set_at done (get_or was n 0) (drop (suc n) was) k n so.size
-              ∙ rw (add-one n, listed_more k true h) (sym (append_assoc done (k ∷ []) (drop (suc n) was)));
-        }
-
-    collect_miss : test k ≡ false → Collected was is n (k + 1)
-    collect_miss h =
-        let same : listed (k + 1) ≡ listed k = listed_more k false h ∙ append-nil (listed k) in
-        record { size = ap length same ∙ so.size; written = so.written ∙ ap (λ (l : List ℕ). l ++ drop n was) (sym same) }
-
-    -- One more is looked at.
-    pub collect_turn : length front + k < length was → (b : Bool) → test k ≡ b → Collected was (cond b (set is n k) is) (cond b (n + 1) n) (k + 1)
-    collect_turn room true h = collect_hit room h
-    collect_turn room false h = collect_miss h
-
-    pub collected-length : length front + k ≤ length was → length is ≡ length was
-    collected-length room =
-        let few : n ≤ length front + k = collected_few in
-        ap length so.written ∙ length-append (listed k) (drop n was) ∙ rw (so.size, length-drop n was) (omega arith)
-
-    pub collect_ends : (end : ℕ) → k ≡ end → Written (listed end) was is n
-    collect_ends end e = record {
-      size = sym so.size ∙ ap (λ (m : ℕ). length (listed m)) e;
-      kept = so.written ∙ ap (λ (m : ℕ). listed m ++ drop n was) e;
-    }
 
 -- ---- to visit what each of a list gives
 

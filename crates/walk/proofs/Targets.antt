@@ -1,12 +1,11 @@
 -- Every step that the loops visit leads to a state, so that a search keeps its memory to the end.
 -- Assumes nothing.
-use mathlib.Core.Path.{◌≡◌, refl, ◌∙◌}
+use mathlib.Core.Path.{◌≡◌, refl}
 use mathlib.Core.Bool.{Bool, true, false, not, cond, ◌&&◌}
 use mathlib.Core.List.{List}
 use Prim.Native.Nat.{ℕ, zero, suc, ◌+◌, ◌<◌}
 use borrow.Author.Tests.{ltb-true}
 use lib.Dec.{eqb, ltb}
-use lib.ListN.{length}
 use Rattle.gran.specs.Policy.{EXEC, SET_UID, SET_GID}
 use Rattle.gran.specs.Access.{has, sees}
 use Rattle.fields.specs.Fields.{entry_caps, object_count, object_path_at, object_modes_at}
@@ -18,7 +17,6 @@ use Rattle.numbered.specs.declared.Digits.{Digits}
 use Rattle.numbered.proofs.Radix.{number_of_lt, digits_among}
 use Rattle.walk.specs.Walk.{Walk, queued, Cleared, visits, sweep, search}
 use Rattle.walk.specs.Needed.{Kept}
-use Rattle.walk.proofs.Walks.{visits-length}
 use Rattle.walk.proofs.Each.{each_append, each_range, each-offered, each-cond}
 use Rattle.walk.proofs.Keeping.{IsState, Inside, kept-empty, kept-visit, kept-visits}
 
@@ -117,9 +115,6 @@ module _ (goal : ℕ → Bool) (steps : ℕ → List Step) (I : Walk → Type 0)
       go true b e on = k
       go false false e on = k
       go false true e on = on (turn p w (ltb-true p w.count e) k)
-
-pub sweep-length : (goal : ℕ → Bool) (steps : ℕ → List Step) (fuel p : ℕ) (w : Walk) → length (sweep goal steps fuel p w).area ≡ length w.area
-sweep-length goal steps fuel p w = sweep_keeps goal steps (λ v. length v.area ≡ length w.area) (λ q v lt e. visits-length goal q (steps (queued v.area q)) v ∙ e) fuel p w refl
 
 module _ {z : Sizes} (sized : Sized z) (s t : List ℕ) (goal : ℕ → Bool) where
   pub search_kept : (start : ℕ) (area : List ℕ) → start < all_states z → Cleared (all_states z) area → Kept z (search goal (candidates s t z) start area)

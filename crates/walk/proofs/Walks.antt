@@ -5,12 +5,11 @@ use mathlib.Core.Bool.{Bool, true, false, cond}
 use mathlib.Core.List.{List, [], ◌∷◌, ◌++◌}
 use Prim.Native.Nat.{ℕ, zero, suc, ◌+◌, ◌-◌, ◌≤◌, ◌<◌}
 use native.Mathlib.Omega.{arith}
-use lib.ListN.{length, take, drop, length-append, length-set}
-use lib.Seq.{take_at}
+use lib.ListN.{length, length-set}
 use lib.Dec.{eqb}
 use borrow.Author.Tests.{eq-eqb, ne_eqb, lt-ltb, le-ltb}
 use Rattle.numbered.specs.Candidates.{Step, flat}
-use Rattle.walk.specs.Walk.{Walk, queued, mark, enter, visit, visits, sweep, Written}
+use Rattle.walk.specs.Walk.{Walk, queued, mark, enter, visit, visits, sweep}
 
 module _ (goal : ℕ → Bool) where
   module _ (p c n : ℕ) (w : Walk) where
@@ -45,10 +44,6 @@ module _ (goal : ℕ → Bool) where
   unfolding visits
   visits-length p [] w = refl
   visits-length p (x ∷ xs) w = visits-length p xs (visit goal p x.label x.target w) ∙ visit-length p x.label x.target w
-
-  pub visits-none : (p : ℕ) {xs : List Step} (w : Walk) → xs ≡ [] → w ≡ visits goal p xs w
-  unfolding visits
-  visits-none p w e = rw e
 
   pub visits_as : (p : ℕ) {xs ys : List Step} (w : Walk) {then : Walk} → then ≡ visits goal p xs w → xs ≡ ys → then ≡ visits goal p ys w
   visits_as p w h e = h ∙ ap (λ (l : List Step). visits goal p l w) e
@@ -99,14 +94,3 @@ module _ (goal : ℕ → Bool) (p : ℕ) (f : ℕ → List Step) (k end : ℕ) (
   flat-end h =
       let e : end - k ≡ 0 = omega arith in
       rw e
-
--- ---- what was written in front
-
-pub written_front : {xs was is : List ℕ} {n : ℕ} → Written xs was is n → take n is ≡ xs
-written_front {xs} {was} {is} {n} w = rw w.kept (take_at xs (drop n was) n (sym w.size))
-
-pub written-fits : {xs was is : List ℕ} {n : ℕ} → Written xs was is n → n ≤ length is
-written-fits {xs} {was} {is} {n} w = rw (w.kept, length-append xs (drop n was)) (omega (arith, w.size))
-
-pub written_size : {xs was is : List ℕ} {n : ℕ} → Written xs was is n → n ≡ length (take n is)
-written_size w = w.size ∙ sym (ap length (written_front w))

@@ -1,6 +1,6 @@
 -- What the loops of a search require of the memory and the sizes.
 -- Assumes nothing.
-use Rattle.std.specs.Prelude.{◌≡◌, false, cond, List, ℕ, zero, suc, ◌+◌, ◌*◌, ◌≤◌, ◌<◌, eqb, length, get_or}
+use Rattle.std.specs.Prelude.{◌≡◌, Bool, true, false, cond, List, ℕ, zero, suc, ◌+◌, ◌*◌, ◌≤◌, ◌<◌, eqb, length, get_or}
 use Rattle.std.proofs.Math.Bool.{So}
 use Rattle.gran.specs.Policy.{EXEC}
 use Rattle.gran.specs.Access.{sees}
@@ -15,7 +15,7 @@ use Rattle.walk.specs.Walk.{Walk, queued, mark}
 
 -- The memory: the work area, and the numbers that the code carries.
 abbrev pub walk_of : List ℕ → Progress → Walk
-walk_of area w = record { area = area; count = w.count; met = eqb w.met 1 }
+walk_of area w = record { area = area; count = w.count; met = w.met }
 
 -- How many of the first n numbers have no mark.
 unfoldable pub unmarked : List ℕ → ℕ → ℕ
@@ -75,5 +75,5 @@ abbrev pub flag_at : ℕ → ℕ → ℕ
 flag_at special e = 256 * special + e
 
 -- Where the flag of a special role and an entry is set, every state that the entry's objects lead to under that role was found.
-pub record Opened (s t : List ℕ) (z : Sizes) (flags : List ℕ) (w : Walk) : Type 0 where
-  pub entry : (e r : ℕ) → e < 256 → get_or flags (flag_at r e) 0 ≡ 1 → EntryDone s t z e r w
+pub record Opened (s t : List ℕ) (z : Sizes) (flags : List Bool) (w : Walk) : Type 0 where
+  pub entry : (e r : ℕ) → e < 256 → get_or flags (flag_at r e) false ≡ true → EntryDone s t z e r w

@@ -1,5 +1,5 @@
 // A state enters the work area.
-ghost use Rattle.std.specs.Prelude.{◌≡◌, ◌<◌, eqb};
+ghost use Rattle.std.specs.Prelude.{◌≡◌, ◌<◌};
 ghost use Rattle.numbered.specs.Number.{all_states};
 ghost use Rattle.numbered.specs.Candidates.{offered, goal_at};
 ghost use Rattle.walk.specs.Walk as spec;
@@ -9,46 +9,33 @@ use crate::state::is_goal;
 use crate::{EACH, LABEL, MARK, Progress};
 use numbered::Sizes;
 
-// A test as a number: 1 where it holds.
-fn flag(test: bool) -> usize
-    ensures { eqb result 1 ≡ test }
-{
-    if test { 1 } else { 0 }
+// What the steps of a state go by, and none of them changes: the store, the tables, how many choices each part of a state has, and the
+// state's place in the queue.
+#[derive(Clone, Copy)]
+pub struct Given<'a> {
+    pub store: &'a [u8],
+    pub tables: &'a [u8],
+    pub sizes: Sizes,
+    pub place: usize,
 }
 
-// A step labelled `c` from place `p` of the queue to state `n`: a state that was not found yet enters the queue.
-pub fn visit(
-    area: &mut [u16],
-    t: &[u8],
-    z: Sizes,
-    p: usize,
-    c: u16,
-    n: usize,
-    w: Progress,
-) -> Progress
-    requires { Going z p (walk_of area.old w) × (n < all_states z) }
-    ensures { walk_of area.new result ≡ spec.visit (goal_at t.now z) p c n (walk_of area.old w) }
+// A step labelled `label` to state `n`: a state that was not found yet enters the queue.
+#[tactic(auto, unfolding(crate::specs::Walk::visit))]
+pub fn visit(area: &mut [u16], given: Given, label: u16, n: usize, w: Progress) -> Progress
+    requires { Going given.sizes given.place (walk_of area.old w) × (n < all_states given.sizes) }
+    ensures { walk_of area.new result ≡ spec.visit (goal_at given.entry.tables.now given.entry.sizes) given.entry.place label n (walk_of area.old w) }
 {
-    let count = w.count;
-    let met = w.met;
-    if met == 1 {
-        return w;
-    }
     let at = EACH * n + MARK;
-    if area[at] != 0 {
+    let found = area[at] != 0;
+    if w.met || found {
         return w;
     }
-    let place = EACH * count;
-    area[place] = n as u16;
-    area[at] = (p + 1) as u16;
-    let name = EACH * n + LABEL;
-    area[name] = c;
-    let more = count + 1;
-    let goal = is_goal(t, z, n);
-    let last = flag(goal);
+    area[EACH * w.count] = n as u16;
+    area[at] = (given.place + 1) as u16;
+    area[EACH * n + LABEL] = label;
     Progress {
-        count: more,
-        met: last,
+        count: w.count + 1,
+        met: is_goal(given.tables, given.sizes, n),
     }
 }
 
@@ -56,19 +43,17 @@ pub fn visit(
 #[tactic(auto, unfolding(crate::specs::Walk::visits))]
 pub fn offer(
     area: &mut [u16],
-    t: &[u8],
-    z: Sizes,
+    given: Given,
     allowed: bool,
-    p: usize,
-    c: u16,
+    label: u16,
     n: usize,
     w: Progress,
 ) -> Progress
-    requires { Going z p (walk_of area.old w) × (n < all_states z) }
-    ensures { walk_of area.new result ≡ spec.visits (goal_at t.now z) p (offered allowed c n) (walk_of area.old w) }
+    requires { Going given.sizes given.place (walk_of area.old w) × (n < all_states given.sizes) }
+    ensures { walk_of area.new result ≡ spec.visits (goal_at given.entry.tables.now given.entry.sizes) given.entry.place (offered allowed label n) (walk_of area.old w) }
 {
     if allowed {
-        return visit(area, t, z, p, c, n, w);
+        return visit(area, given, label, n, w);
     }
     w
 }

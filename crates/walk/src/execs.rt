@@ -1,61 +1,48 @@
 // 84: by object, then user, then group, then new subject.
-ghost use Rattle.std.specs.Prelude.{◌≡◌, cond, ◌&&◌, ◌+◌, ◌≤◌, ◌<◌, ltb, length, set};
+ghost use Rattle.std.specs.Prelude.{◌≡◌, cond, ◌&&◌, ◌+◌, ◌≤◌, ◌<◌, ltb, []};
 ghost use Rattle.std.proofs.Math.Bool.{So};
-ghost use Rattle.runs.specs.Steps.{each};
 ghost use Rattle.fields.specs.Fields.{object_count};
 ghost use Rattle.tables.specs.Tables.{is_set, user_reach_cell, group_reach_cell};
 ghost use Rattle.numbered.specs.Number.{Among, Celled};
 ghost use Rattle.numbered.specs.Candidates.{goal_at, in_image, by_subject, by_user, object_step, object_steps};
 ghost use Rattle.walk.specs.Walk as spec;
-ghost use Rattle.walk.specs.Walk.{Written};
 ghost use Rattle.walk.specs.Needed.{walk_of, Going, ObjectDone, EntryDone, Opened};
-ghost use Rattle.walk.specs.Image.{image_of, is_another, followers_of, users_after, groups_after, Below, to_group};
+ghost use Rattle.walk.specs.Image.{image_of, is_another, followers_of, users_after, groups_after};
 
-use crate::area::visit;
+use crate::area::{Given, visit};
+use crate::few::Few;
 use crate::state::is_set;
-use crate::{Exec, FLAGS, Progress};
+use crate::{FLAGS, Progress};
 use fields::{byte, object_count, object_modes, object_path};
 use gran::Modes;
-use numbered::{Digits, Sizes};
+use numbered::Digits;
 use tables::cell;
+
+// An object: the entry that it stands in, its place there, and its path.
+#[derive(Clone, Copy)]
+pub struct Object {
+    pub from: u8,
+    pub place: u8,
+    pub path: u8,
+}
+
+// An entry in force, the users and groups that can follow, and whether it was opened before, under the same special role.
+#[derive(Clone, Copy)]
+pub struct Follow<'a> {
+    pub entry: u8,
+    pub users: &'a [u8],
+    pub groups: &'a [u8],
+    pub again: bool,
+}
 
 // Whether subject `k` is in the object's image.
 #[tactic(auto, unfolding(numbered::specs::Candidates::in_image))]
-fn in_image(t: &[u8], x: Exec, k: usize) -> bool
+fn in_image(t: &[u8], x: Object, k: usize) -> bool
     requires { k < 64 }
     ensures { result ≡ in_image t.now x.from x.place x.path k }
 {
-    if byte(t, cell::OBJECT + (64 * k + x.from as usize)) == x.place {
-        return true;
-    }
-    byte(t, cell::STAND + x.path as usize) as usize == k
-}
-
-// Puts `v` behind the first `n` where it is a hit; how many there are then.
-fn keep(out: &mut [u8], n: usize, hit: bool, v: u8) -> usize
-    requires { (n < length out.old) × (n < 64) }
-    ensures { (out.new ≡ cond hit (set out.old n v) out.old) × (result ≡ cond hit (n + 1) n) }
-{
-    if hit {
-        out[n] = v;
-        return n + 1;
-    }
-    n
-}
-
-// The subjects of the object's image, to the front of `out`; how many.
-fn collect(t: &[u8], x: Exec, subjects: usize, out: &mut [u8]) -> usize
-    requires { (subjects ≤ 64) × (subjects ≤ length out.old) }
-    ensures { Written (image_of t.now x.from x.place x.path subjects) out.old out.new result }
-{
-    let mut n = 0;
-    let mut k = 0;
-    while k < subjects {
-        let hit = in_image(t, x, k);
-        n = keep(out, n, hit, k as u8);
-        k += 1;
-    }
-    n
+    byte(t, cell::OBJECT + (64 * k + usize::from(x.from))) == x.place
+        || usize::from(byte(t, cell::STAND + usize::from(x.path))) == k
 }
 
 // Whether choice `j` is another than the kept one, and allowed.
@@ -64,87 +51,37 @@ fn is_another(t: &[u8], cells: usize, kept: usize, j: usize) -> bool
     requires { (cells ≤ 8192) × (j < 16) }
     ensures { result ≡ is_another t.now cells kept j }
 {
-    if j == kept {
-        return false;
-    }
-    is_set(t, cells + j)
+    j != kept && is_set(t, cells + j)
 }
 
-// The kept choice, then the others that are allowed, to the front of `out`; how many.
-fn followers(t: &[u8], cells: usize, count: usize, kept: usize, out: &mut [u8]) -> usize
-    requires { (cells ≤ 8192) × ((count ≤ 16) × ((kept < 16) × (count < length out.old))) }
-    ensures { Written (followers_of t.now cells count kept) out.old out.new result }
+// The kept choice, then the others that are allowed, into an empty list. It is lent: a list that is handed back is copied, right after its
+// numbers were written one by one.
+fn followers<const N: usize>(t: &[u8], cells: usize, count: usize, kept: usize, list: &mut Few<N>)
+    requires { (cells ≤ 8192) × ((count ≤ 16) × ((kept < 16) × ((count < N) × (list.old ≡ [])))) }
+    ensures { list.new ≡ followers_of t.now cells count kept }
 {
-    out[0] = kept as u8;
-    let mut n = 1;
-    let mut j = 0;
-    while j < count {
-        let hit = is_another(t, cells, kept, j);
-        n = keep(out, n, hit, j as u8);
-        j += 1;
-    }
-    n
+    list.push(kept as u8);
+    list.push_where(count, |j| is_another(t, cells, kept, j));
 }
 
 // With the user and the group of `d`, to each subject of the image.
 fn exec_subjects(
     area: &mut [u16],
-    t: &[u8],
-    z: Sizes,
+    given: Given,
+    x: Object,
     image: &[u8],
-    p: usize,
-    x: Exec,
     d: Digits,
     w: Progress,
 ) -> Progress
-    requires { Going z p (walk_of area.old w) × (Among z d × (image.now ≡ image_of t.now x.from x.place x.path z.subjects)) }
-    ensures { walk_of area.new result ≡ spec.visits (goal_at t.now z) p (by_subject t.now z d x.from x.place x.path) (walk_of area.old w) }
+    requires { Going given.sizes given.place (walk_of area.old w) × (Among given.sizes d × (image.now ≡ image_of given.tables.now x.from x.place x.path given.sizes.subjects)) }
+    ensures { walk_of area.new result ≡ spec.visits (goal_at given.entry.tables.now given.entry.sizes) given.entry.place (by_subject given.entry.tables.now given.entry.sizes d x.from x.place x.path) (walk_of area.old w) }
 {
-    let first = Digits {
-        special: d.special,
-        user: d.user,
-        group: d.group,
-        subject: 0,
-    };
-    let base = first.number(z);
-    let c = x.place as u16;
+    let base = Digits { subject: 0, ..d }.number(given.sizes);
+    let label = u16::from(x.place);
     let mut done = w;
-    let mut k = 0;
-    while k < image.len() {
-        let n = base + image[k] as usize;
-        done = visit(area, t, z, p, c, n, done);
-        k += 1;
-    }
-    done
-}
-
-// With the user of `d`, to each group of the list.
-fn exec_groups(
-    area: &mut [u16],
-    t: &[u8],
-    z: Sizes,
-    groups: &[u8],
-    image: &[u8],
-    p: usize,
-    x: Exec,
-    d: Digits,
-    w: Progress,
-) -> Progress
-    requires { Going z p (walk_of area.old w) × (Among z d × ((image.now ≡ image_of t.now x.from x.place x.path z.subjects) × Below z.groups groups.now)) }
-    ensures { walk_of area.new result ≡ spec.visits (goal_at t.now z) p (each groups.now (to_group t.now z d x.from x.place x.path)) (walk_of area.old w) }
-{
-    let mut done = w;
-    let mut j = 0;
-    while j < groups.len() {
-        let group = groups[j] as usize;
-        let to = Digits {
-            special: d.special,
-            user: d.user,
-            group: group,
-            subject: d.subject,
-        };
-        done = exec_subjects(area, t, z, image, p, x, to, done);
-        j += 1;
+    for &k in image {
+        let n = base + usize::from(k);
+        done = visit(area, given, label, n, done);
     }
     done
 }
@@ -154,119 +91,96 @@ fn exec_groups(
 fn group_count(again: bool, j: usize, count: usize) -> usize
     ensures { result ≡ cond (again && ltb 0 j) 1 count }
 {
-    if again {
-        if 0 < j {
-            return 1;
-        }
-    }
-    count
+    if again && 0 < j { 1 } else { count }
 }
 
-// To each user of the list. Where the entry was opened before, the states of the other users with the other groups were found then.
+// To each user that can follow, and with it to each group. Where the entry was opened before, the states of the other users with the other
+// groups were found then.
 fn exec_users(
     area: &mut [u16],
-    t: &[u8],
-    z: Sizes,
-    users: &[u8],
-    groups: &[u8],
-    again: bool,
-    image: &[u8],
-    p: usize,
-    x: Exec,
+    given: Given,
+    follow: &Follow,
+    x: Object,
     d: Digits,
     w: Progress,
 ) -> Progress
-    requires { Going z p (walk_of area.old w) × (Among z d × ((image.now ≡ image_of t.now x.from x.place x.path z.subjects) × ((groups.now ≡ groups_after t.now z d x.from) × ((users.now ≡ users_after t.now z d x.from) × (So again → ObjectDone t.now z x.from x.place x.path d.special (walk_of area.old w)))))) }
-    ensures { walk_of area.new result ≡ spec.visits (goal_at t.now z) p (by_user t.now z d x.from x.place x.path) (walk_of area.old w) }
+    requires { Going given.sizes given.place (walk_of area.old w) × (Among given.sizes d × ((follow.now.groups.now ≡ groups_after given.tables.now given.sizes d x.from) × ((follow.now.users.now ≡ users_after given.tables.now given.sizes d x.from) × (So follow.now.again → ObjectDone given.tables.now given.sizes x.from x.place x.path d.special (walk_of area.old w))))) }
+    ensures { walk_of area.new result ≡ spec.visits (goal_at given.entry.tables.now given.entry.sizes) given.entry.place (by_user given.entry.tables.now given.entry.sizes d x.from x.place x.path) (walk_of area.old w) }
 {
+    let mut image: Few<64> = Few::new();
+    image.push_where(given.sizes.subjects, |k| in_image(given.tables, x, k));
+    let subjects = image.as_slice();
+    let groups = follow.groups;
     let mut done = w;
-    let mut j = 0;
-    while j < users.len() {
-        let n = group_count(again, j, groups.len());
-        let user = users[j] as usize;
-        let to = Digits {
-            special: d.special,
-            user: user,
-            group: d.group,
-            subject: d.subject,
-        };
-        done = exec_groups(area, t, z, &groups[..n], image, p, x, to, done);
-        j += 1;
+    for (j, &user) in follow.users.iter().enumerate() {
+        let n = group_count(follow.again, j, groups.len());
+        for &group in &groups[..n] {
+            let to = Digits {
+                user: usize::from(user),
+                group: usize::from(group),
+                ..d
+            };
+            done = exec_subjects(area, given, x, subjects, to, done);
+        }
     }
     done
 }
 
-// The object at place `i`, if it can be executed.
+// The object at place `i` of the entry, if it can be executed.
+#[tactic(auto, unfolding(crate::specs::Walk::visits, numbered::specs::Candidates::object_step))]
 fn exec_object(
     area: &mut [u16],
-    store: &[u8],
-    t: &[u8],
-    z: Sizes,
-    users: &[u8],
-    groups: &[u8],
-    again: bool,
-    p: usize,
-    d: Digits,
-    entry: u8,
+    given: Given,
+    follow: &Follow,
     i: u8,
+    d: Digits,
     w: Progress,
 ) -> Progress
-    requires { Going z p (walk_of area.old w) × (Among z d × ((groups.now ≡ groups_after t.now z d entry) × ((users.now ≡ users_after t.now z d entry) × ((i < object_count store.now entry) × (So again → EntryDone store.now t.now z entry d.special (walk_of area.old w)))))) }
-    ensures { walk_of area.new result ≡ spec.visits (goal_at t.now z) p (object_step store.now t.now z d entry i) (walk_of area.old w) }
+    requires { Going given.sizes given.place (walk_of area.old w) × (Among given.sizes d × ((follow.now.groups.now ≡ groups_after given.tables.now given.sizes d follow.now.entry) × ((follow.now.users.now ≡ users_after given.tables.now given.sizes d follow.now.entry) × ((i < object_count given.store.now follow.now.entry) × (So follow.now.again → EntryDone given.store.now given.tables.now given.sizes follow.now.entry d.special (walk_of area.old w)))))) }
+    ensures { walk_of area.new result ≡ spec.visits (goal_at given.entry.tables.now given.entry.sizes) given.entry.place (object_step given.entry.store.now given.entry.tables.now given.entry.sizes d follow.now.entry i) (walk_of area.old w) }
 {
+    let entry = follow.entry;
     let modes = Modes {
-        bits: object_modes(store, entry, i),
+        bits: object_modes(given.store, entry, i),
     };
     if !modes.executable() {
         return w;
     }
-    let x = Exec {
+    let x = Object {
         from: entry,
         place: i,
-        path: object_path(store, entry, i),
+        path: object_path(given.store, entry, i),
     };
-    let mut image = [0u8; 64];
-    let n = collect(t, x, z.subjects, &mut image);
-    exec_users(area, t, z, users, groups, again, &image[..n], p, x, d, w)
+    exec_users(area, given, follow, x, d, w)
 }
 
 // The objects of the entry in force, in its order. Which users and groups can follow is the same for each of them.
 fn exec_objects(
     area: &mut [u16],
-    store: &[u8],
-    t: &[u8],
-    z: Sizes,
-    p: usize,
+    given: Given,
     d: Digits,
     entry: u8,
     again: bool,
     w: Progress,
 ) -> Progress
-    requires { Going z p (walk_of area.old w) × (Among z d × (So again → EntryDone store.now t.now z entry d.special (walk_of area.old w))) }
-    ensures { walk_of area.new result ≡ spec.visits (goal_at t.now z) p (object_steps store.now t.now z d entry) (walk_of area.old w) }
+    requires { Going given.sizes given.place (walk_of area.old w) × (Among given.sizes d × (So again → EntryDone given.store.now given.tables.now given.sizes entry d.special (walk_of area.old w))) }
+    ensures { walk_of area.new result ≡ spec.visits (goal_at given.entry.tables.now given.entry.sizes) given.entry.place (object_steps given.entry.store.now given.entry.tables.now given.entry.sizes d entry) (walk_of area.old w) }
 {
-    let e = entry as usize;
-    let mut groups = [0u8; 16];
-    let m = followers(t, cell::GROUP_REACH + 8 * e, z.groups, d.group, &mut groups);
-    let mut users = [0u8; 32];
-    let n = followers(t, cell::USER_REACH + 16 * e, z.users, d.user, &mut users);
-    let count = object_count(store, entry);
+    let (t, z, e) = (given.tables, given.sizes, usize::from(entry));
+    let mut users: Few<32> = Few::new();
+    followers(t, cell::USER_REACH + 16 * e, z.users, d.user, &mut users);
+    let mut groups: Few<16> = Few::new();
+    followers(t, cell::GROUP_REACH + 8 * e, z.groups, d.group, &mut groups);
+    let follow = Follow {
+        entry,
+        users: users.as_slice(),
+        groups: groups.as_slice(),
+        again,
+    };
+    let count = object_count(given.store, entry);
     let mut done = w;
     for i in 0..count {
-        done = exec_object(
-            area,
-            store,
-            t,
-            z,
-            &users[..n],
-            &groups[..m],
-            again,
-            p,
-            d,
-            entry,
-            i,
-            done,
-        );
+        done = exec_object(area, given, &follow, i, d, done);
     }
     done
 }
@@ -276,35 +190,29 @@ fn allows_kept(t: &[u8], d: Digits, entry: u8) -> bool
     requires { Celled d }
     ensures { result ≡ (is_set t.now (user_reach_cell entry d.user) && is_set t.now (group_reach_cell entry d.group)) }
 {
-    if is_set(t, cell::USER_REACH + (16 * (entry as usize) + d.user)) {
-        return is_set(t, cell::GROUP_REACH + (8 * (entry as usize) + d.group));
-    }
-    false
+    let e = usize::from(entry);
+    is_set(t, cell::USER_REACH + (16 * e + d.user))
+        && is_set(t, cell::GROUP_REACH + (8 * e + d.group))
 }
 
 // The objects of the entry in force, but where they lead to no new state: the same entry was opened under the same special role, and it
 // allows the kept user and group too.
 pub fn exec_once(
     area: &mut [u16],
-    store: &[u8],
-    t: &[u8],
-    z: Sizes,
-    p: usize,
+    given: Given,
     d: Digits,
     entry: u8,
-    opened: &mut [u8; FLAGS],
+    opened: &mut [bool; FLAGS],
     w: Progress,
 ) -> Progress
-    requires { Going z p (walk_of area.old w) × (Among z d × Opened store.now t.now z opened.old (walk_of area.old w)) }
-    ensures { (walk_of area.new result ≡ spec.visits (goal_at t.now z) p (object_steps store.now t.now z d entry) (walk_of area.old w)) × Opened store.now t.now z opened.new (walk_of area.new result) }
+    requires { Going given.sizes given.place (walk_of area.old w) × (Among given.sizes d × Opened given.store.now given.tables.now given.sizes opened.old (walk_of area.old w)) }
+    ensures { (walk_of area.new result ≡ spec.visits (goal_at given.entry.tables.now given.entry.sizes) given.entry.place (object_steps given.entry.store.now given.entry.tables.now given.entry.sizes d entry) (walk_of area.old w)) × Opened given.entry.store.now given.entry.tables.now given.entry.sizes opened.new (walk_of area.new result) }
 {
-    let at = 256 * d.special + entry as usize;
-    let again = opened[at] == 1;
-    if again {
-        if allows_kept(t, d, entry) {
-            return w;
-        }
+    let at = 256 * d.special + usize::from(entry);
+    let again = opened[at];
+    if again && allows_kept(given.tables, d, entry) {
+        return w;
     }
-    opened[at] = 1;
-    exec_objects(area, store, t, z, p, d, entry, again, w)
+    opened[at] = true;
+    exec_objects(area, given, d, entry, again, w)
 }

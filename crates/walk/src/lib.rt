@@ -5,10 +5,11 @@
 
 mod area;
 mod execs;
+mod few;
 pub mod state;
 mod steps;
 
-ghost use Rattle.std.specs.Prelude.{◌≡◌, ℕ, ◌≤◌, ◌<◌, length, get_or};
+ghost use Rattle.std.specs.Prelude.{◌≡◌, false, ℕ, ◌≤◌, ◌<◌, length, get_or};
 ghost use Rattle.lines.specs.Line.{zeros};
 ghost use Rattle.numbered.specs.Number.{all_states, Sized};
 ghost use Rattle.numbered.specs.Candidates.{goal_at, candidates};
@@ -16,13 +17,16 @@ ghost use Rattle.walk.specs.Walk as spec;
 ghost use Rattle.walk.specs.Walk.{Cleared, trail, Written};
 ghost use Rattle.walk.specs.Needed.{walk_of, Going, Opened, Rest, Rooted};
 
-use area::visit;
+use area::{Given, visit};
 use execs::exec_once;
+use fields::entry_caps;
+use gran::Caps;
 use numbered::{Digits, Sizes};
 use state::{all_states, entry_at, role_at};
-use steps::{set_groups, set_users, specials};
+use steps::{Span, offer_span};
 
-// The work area has three numbers for each state: number 3k is place k of the queue, 3n + 1 the mark and 3n + 2 the label of state n.
+// The work area has three numbers for each state: number 3k is place k of the queue, 3n + 1 the mark and 3n + 2 the label of state n. It is
+// lent as numbers, and lies side by side so that few states need a small one; so no struct and no three arrays.
 pub const EACH: usize = 3;
 
 const MARK: usize = 1;
@@ -32,50 +36,48 @@ pub const LABEL: usize = 2;
 // A flag for each special role and each byte that the tables may give as the entry in force.
 pub const FLAGS: usize = 2048;
 
-// How many states were found, and 1 where the last of them has the access, which ends the search. Whole words both: with a bool beside the
-// count, the compiled loops would carry it through memory, in pieces.
+// How many states were found, and whether the last of them has the access, which ends the search.
 #[derive(Clone, Copy)]
 pub struct Progress {
     pub count: usize,
-    pub met: usize,
+    pub met: bool,
 }
 
-// An exec: the entry in force, the object's place in it, and the object's path.
-#[derive(Clone, Copy)]
-pub struct Exec {
-    pub from: u8,
-    pub place: u8,
-    pub path: u8,
-}
-
-// The steps of state `n`, at place `p` of the queue: 81, 82, 83, 84.
+// The steps of state `n`: 81, 82, 83, 84.
 fn expand(
     area: &mut [u16],
-    store: &[u8],
-    t: &[u8],
-    z: Sizes,
-    p: usize,
+    given: Given,
     n: usize,
-    opened: &mut [u8; FLAGS],
+    opened: &mut [bool; FLAGS],
     w: Progress,
 ) -> Progress
-    requires { Going z p (walk_of area.old w) × ((n < all_states z) × Opened store.now t.now z opened.old (walk_of area.old w)) }
-    ensures { (walk_of area.new result ≡ spec.visits (goal_at t.now z) p (candidates store.now t.now z n) (walk_of area.old w)) × Opened store.now t.now z opened.new (walk_of area.new result) }
+    requires { Going given.sizes given.place (walk_of area.old w) × ((n < all_states given.sizes) × Opened given.store.now given.tables.now given.sizes opened.old (walk_of area.old w)) }
+    ensures { (walk_of area.new result ≡ spec.visits (goal_at given.entry.tables.now given.entry.sizes) given.entry.place (candidates given.entry.store.now given.entry.tables.now given.entry.sizes n) (walk_of area.old w)) × Opened given.entry.store.now given.entry.tables.now given.entry.sizes opened.new (walk_of area.new result) }
 {
+    let z = given.sizes;
     let d = Digits::of(n, z);
-    let role = role_at(t, d);
-    let entry = entry_at(t, d, role);
-    let w1 = specials(area, t, z, p, d, role, w);
-    let w2 = set_users(area, store, t, z, p, d, entry, w1);
-    let w3 = set_groups(area, store, t, z, p, d, entry, w2);
-    exec_once(area, store, t, z, p, d, entry, opened, w3)
+    let role = role_at(given.tables, d);
+    let entry = entry_at(given.tables, d, role);
+    let caps = Caps {
+        bits: entry_caps(given.store, entry),
+    };
+    let w1 = offer_span(area, given, true, Span::of_specials(z, d, role), w);
+    let w2 = offer_span(area, given, caps.set_uid(), Span::of_users(z, d, entry), w1);
+    let w3 = offer_span(
+        area,
+        given,
+        caps.set_gid(),
+        Span::of_groups(z, d, entry),
+        w2,
+    );
+    exec_once(area, given, d, entry, opened, w3)
 }
 
 // No special role and entry opened yet.
-fn none_opened() -> [u8; FLAGS]
-    ensures { (i : ℕ) → get_or result i 0 ≡ 0 }
+fn none_opened() -> [bool; FLAGS]
+    ensures { (i : ℕ) → get_or result i false ≡ false }
 {
-    [0; FLAGS]
+    [false; FLAGS]
 }
 
 // The search from state `start`, in a cleared work area, until the access is met or every state that can be reached is found. Once all
@@ -84,23 +86,26 @@ pub fn search(area: &mut [u16], store: &[u8], t: &[u8], z: Sizes, start: usize) 
     requires { Cleared (all_states z) area.old × (Sized z × (start < all_states z)) }
     ensures { walk_of area.new result ≡ spec.search (goal_at t.now z) (candidates store.now t.now z) start area.old }
 {
-    let none = Progress { count: 0, met: 0 };
+    let none = Progress {
+        count: 0,
+        met: false,
+    };
+    let first = Given {
+        store,
+        tables: t,
+        sizes: z,
+        place: 0,
+    };
     let all = all_states(z);
     let mut opened = none_opened();
-    let mut w = visit(area, t, z, 0, 0, start, none);
-    let mut p = 0;
-    while p < w.count {
-        let met = w.met;
-        if met == 1 {
+    let mut w = visit(area, first, 0, start, none);
+    for p in 0..all {
+        if w.met || w.count <= p || w.count == all {
             return w;
         }
-        if w.count == all {
-            return w;
-        }
-        let place = EACH * p;
-        let n = area[place] as usize;
-        w = expand(area, store, t, z, p, n, &mut opened, w);
-        p += 1;
+        let n = usize::from(area[EACH * p]);
+        let given = Given { place: p, ..first };
+        w = expand(area, given, n, &mut opened, w);
     }
     w
 }
@@ -110,11 +115,7 @@ pub fn search(area: &mut [u16], store: &[u8], t: &[u8], z: Sizes, start: usize) 
 pub fn clear(area: &mut [u16])
     ensures { area.new ≡ zeros (length area.old) }
 {
-    let mut i = 0;
-    while i < area.len() {
-        area[i] = 0;
-        i += 1;
-    }
+    area.fill(0);
 }
 
 // Zero again in every number that a search can have set: where there are few states, far fewer than all.
@@ -126,19 +127,18 @@ pub fn wipe(area: &mut [u16], z: Sizes)
     clear(&mut area[..size]);
 }
 
-// The queue's places from `k` back to the start, the start's own left out; how many.
+// The queue's places from `k` back to the start, the start's own left out, into a part that the caller has the room for; how many.
 pub fn trace(area: &[u16], k: usize, out: &mut [u16]) -> usize
     requires { Rooted area.now k × (k ≤ length out.old) }
     ensures { Written (trail area.now 8192 k) out.old out.new result }
 {
     let mut at = k;
     let mut n = 0;
+    // No `for`: the marks say where it goes on, and where it ends.
     while at != 0 {
         out[n] = at as u16;
-        let place = EACH * at;
-        let s = area[place] as usize;
-        let from = EACH * s + MARK;
-        at = (area[from] - 1) as usize;
+        let state = usize::from(area[EACH * at]);
+        at = usize::from(area[EACH * state + MARK]) - 1;
         n += 1;
     }
     n

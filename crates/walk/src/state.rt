@@ -43,10 +43,11 @@ pub fn entry_at(t: &[u8], d: Digits, role: u8) -> u8
     requires { Celled d }
     ensures { result ≡ cell t.now (force_cell d.subject role) }
 {
-    byte(t, cell::FORCE + (32 * d.subject + role as usize))
+    byte(t, cell::FORCE + (32 * d.subject + usize::from(role)))
 }
 
 // Whether the access is granted in the state of a number.
+#[tactic(auto, using(numbered::proofs::Radix::digits_celled), unfolding(numbered::specs::Candidates::goal_at, numbered::specs::Candidates::entry_number))]
 pub fn is_goal(t: &[u8], z: Sizes, n: usize) -> bool
     requires { Sized z }
     ensures { result ≡ goal_at t.now z n }
@@ -54,5 +55,5 @@ pub fn is_goal(t: &[u8], z: Sizes, n: usize) -> bool
     let d = Digits::of(n, z);
     let role = role_at(t, d);
     let entry = entry_at(t, d, role);
-    is_set(t, cell::GRANT + entry as usize)
+    is_set(t, cell::GRANT + usize::from(entry))
 }

@@ -1,144 +1,88 @@
 // 81, 82 and 83: the special roles, users and groups that a state may take.
-ghost use Rattle.std.specs.Prelude.{◌≡◌};
-ghost use Rattle.numbered.specs.Number.{Among};
-ghost use Rattle.numbered.specs.Candidates.{flat, goal_at, special_steps, user_steps, group_steps};
+ghost use Rattle.std.specs.Prelude.{◌≡◌, cond, List, [], ℕ};
+ghost use Rattle.numbered.specs.Number.{Sized, Among};
+ghost use Rattle.numbered.specs.Candidates.{flat, goal_at, special_steps, user_step, group_step};
 ghost use Rattle.walk.specs.Walk as spec;
 ghost use Rattle.walk.specs.Needed.{walk_of, Going};
-ghost use Rattle.walk.specs.Row.{row_step, Row};
+ghost use Rattle.walk.specs.Row.{Row, row_steps};
 
 use crate::Progress;
-use crate::area::offer;
+use crate::area::{Given, offer};
 use crate::state::is_set;
-use fields::entry_caps;
-use gran::Caps;
 use numbered::{Digits, GROUP_LABEL, SPECIAL_LABEL, Sizes, USER_LABEL};
 use tables::cell;
 
-// To each of `count` states, `stride` apart from `first` on, whose cell from `cells` on is set. A number is linear in each of its digits, so
-// the states that differ in one digit alone stand so, and none of their numbers is computed anew.
-fn offer_row(
-    area: &mut [u16],
-    t: &[u8],
-    z: Sizes,
-    p: usize,
-    cells: usize,
-    count: usize,
-    first: usize,
-    stride: usize,
-    label: u16,
-    w: Progress,
-) -> Progress
-    requires { Going z p (walk_of area.old w) × Row z cells count first stride }
-    ensures { walk_of area.new result ≡ spec.visits (goal_at t.now z) p (flat (row_step t.now cells first stride label) 0 count) (walk_of area.old w) }
+// The states that differ in one digit alone, and the cells that allow them: `count` of them from `cells` on, for the numbers from `first` on,
+// `stride` apart. A number is linear in each of its digits, so none of these is computed anew.
+#[derive(Clone, Copy)]
+pub struct Span {
+    pub cells: usize,
+    pub count: usize,
+    pub first: usize,
+    pub stride: usize,
+    pub label: u16,
+}
+
+impl Span {
+    // The special roles that the role in force may take.
+    pub fn of_specials(z: Sizes, d: Digits, role: u8) -> Self
+        requires { Sized z × Among z d }
+        ensures { Row z result.cells result.count result.first result.stride × ((t : List ℕ) → row_steps t result ≡ special_steps t z d role) }
+    {
+        Span {
+            cells: cell::TAKE + 8 * usize::from(role),
+            count: z.specials,
+            first: Digits { special: 0, ..d }.number(z),
+            stride: z.users * z.groups * z.subjects,
+            label: SPECIAL_LABEL,
+        }
+    }
+
+    // The users that the entry in force allows.
+    pub fn of_users(z: Sizes, d: Digits, entry: u8) -> Self
+        requires { Sized z × Among z d }
+        ensures { Row z result.cells result.count result.first result.stride × ((t : List ℕ) → row_steps t result ≡ flat (user_step t z d entry) 0 z.users) }
+    {
+        Span {
+            cells: cell::USER_REACH + 16 * usize::from(entry),
+            count: z.users,
+            first: Digits { user: 0, ..d }.number(z),
+            stride: z.groups * z.subjects,
+            label: USER_LABEL,
+        }
+    }
+
+    // The groups that it allows.
+    pub fn of_groups(z: Sizes, d: Digits, entry: u8) -> Self
+        requires { Sized z × Among z d }
+        ensures { Row z result.cells result.count result.first result.stride × ((t : List ℕ) → row_steps t result ≡ flat (group_step t z d entry) 0 z.groups) }
+    {
+        Span {
+            cells: cell::GROUP_REACH + 8 * usize::from(entry),
+            count: z.groups,
+            first: Digits { group: 0, ..d }.number(z),
+            stride: z.subjects,
+            label: GROUP_LABEL,
+        }
+    }
+}
+
+// To each state of the span whose cell is set, where there is leave for them at all.
+#[tactic(auto, unfolding(crate::specs::Walk::visits))]
+#[inline(always)] // a call would lay down the span and what is given in memory, three times for each state
+pub fn offer_span(area: &mut [u16], given: Given, leave: bool, span: Span, w: Progress) -> Progress
+    requires { Going given.sizes given.place (walk_of area.old w) × Row given.sizes span.cells span.count span.first span.stride }
+    ensures { walk_of area.new result ≡ spec.visits (goal_at given.entry.tables.now given.entry.sizes) given.entry.place (cond leave (row_steps given.entry.tables.now span) []) (walk_of area.old w) }
 {
+    if !leave {
+        return w;
+    }
     let mut done = w;
-    let mut n = first;
-    let mut j = 0;
-    while j < count {
-        let allowed = is_set(t, cells + j);
-        done = offer(area, t, z, allowed, p, label, n, done);
-        n += stride;
-        j += 1;
+    let mut n = span.first;
+    for j in 0..span.count {
+        let allowed = is_set(given.tables, span.cells + j);
+        done = offer(area, given, allowed, span.label, n, done);
+        n += span.stride;
     }
     done
-}
-
-// To each special role that the role in force may take.
-pub fn specials(
-    area: &mut [u16],
-    t: &[u8],
-    z: Sizes,
-    p: usize,
-    d: Digits,
-    role: u8,
-    w: Progress,
-) -> Progress
-    requires { Going z p (walk_of area.old w) × Among z d }
-    ensures { walk_of area.new result ≡ spec.visits (goal_at t.now z) p (special_steps t.now z d role) (walk_of area.old w) }
-{
-    let zero = Digits {
-        special: 0,
-        user: d.user,
-        group: d.group,
-        subject: d.subject,
-    };
-    let base = zero.number(z);
-    let stride = z.users * z.groups * z.subjects;
-    let cells = cell::TAKE + 8 * (role as usize);
-    offer_row(
-        area,
-        t,
-        z,
-        p,
-        cells,
-        z.specials,
-        base,
-        stride,
-        SPECIAL_LABEL,
-        w,
-    )
-}
-
-// To each user that the entry in force allows, if it has set_uid.
-pub fn set_users(
-    area: &mut [u16],
-    store: &[u8],
-    t: &[u8],
-    z: Sizes,
-    p: usize,
-    d: Digits,
-    entry: u8,
-    w: Progress,
-) -> Progress
-    requires { Going z p (walk_of area.old w) × Among z d }
-    ensures { walk_of area.new result ≡ spec.visits (goal_at t.now z) p (user_steps store.now t.now z d entry) (walk_of area.old w) }
-{
-    let caps = Caps {
-        bits: entry_caps(store, entry),
-    };
-    if !caps.set_uid() {
-        return w;
-    }
-    let zero = Digits {
-        special: d.special,
-        user: 0,
-        group: d.group,
-        subject: d.subject,
-    };
-    let base = zero.number(z);
-    let stride = z.groups * z.subjects;
-    let cells = cell::USER_REACH + 16 * (entry as usize);
-    offer_row(area, t, z, p, cells, z.users, base, stride, USER_LABEL, w)
-}
-
-// To each group that the entry in force allows, if it has set_gid.
-pub fn set_groups(
-    area: &mut [u16],
-    store: &[u8],
-    t: &[u8],
-    z: Sizes,
-    p: usize,
-    d: Digits,
-    entry: u8,
-    w: Progress,
-) -> Progress
-    requires { Going z p (walk_of area.old w) × Among z d }
-    ensures { walk_of area.new result ≡ spec.visits (goal_at t.now z) p (group_steps store.now t.now z d entry) (walk_of area.old w) }
-{
-    let caps = Caps {
-        bits: entry_caps(store, entry),
-    };
-    if !caps.set_gid() {
-        return w;
-    }
-    let zero = Digits {
-        special: d.special,
-        user: d.user,
-        group: 0,
-        subject: d.subject,
-    };
-    let base = zero.number(z);
-    let stride = z.subjects;
-    let cells = cell::GROUP_REACH + 8 * (entry as usize);
-    offer_row(area, t, z, p, cells, z.groups, base, stride, GROUP_LABEL, w)
 }

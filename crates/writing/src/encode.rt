@@ -12,29 +12,26 @@ use store::{Tally, id_bytes};
 pub fn role_row(kind: u8, id: u32) -> [u8; 22]
     ensures { result ≡ role_row (record { kind = kind; id = id }) }
 {
-    let bytes = id_bytes(id);
     let mut row = [0u8; 22];
     row[0] = kind;
-    row[1] = bytes[0];
-    row[2] = bytes[1];
-    row[3] = bytes[2];
-    row[4] = bytes[3];
+    row[1..5].copy_from_slice(&id_bytes(id));
     row
 }
 
 // Where a path's bytes are, and how many.
 #[tactic(auto, unfolding(store::specs::Layout::two))]
-pub fn place_row(at: usize, size: usize) -> [u8; 3]
+pub fn place_row(at: u16, size: usize) -> [u8; 3]
     ensures { result ≡ two at ++ (size % 256 ∷ []) }
 {
-    [(at / 256 % 256) as u8, (at % 256) as u8, (size % 256) as u8]
+    let [high, low] = at.to_be_bytes();
+    [high, low, (size % 256) as u8]
 }
 
 // An entry with no object and no id yet: its first would be at these places.
 #[tactic(auto, unfolding(store::specs::Layout::two, store::specs::Layout::entry_row))]
 pub fn entry_row(
-    object: usize,
-    id: usize,
+    object: u16,
+    id: u16,
     subject: u8,
     role: u8,
     caps: u8,
@@ -43,17 +40,19 @@ pub fn entry_row(
 ) -> [u8; 12]
     ensures { result ≡ entry_row object id (new_entry subject role caps users groups) }
 {
+    let [object_high, object_low] = object.to_be_bytes();
+    let [id_high, id_low] = id.to_be_bytes();
     [
         subject,
         role,
         caps,
         users,
         groups,
-        (object / 256 % 256) as u8,
-        (object % 256) as u8,
+        object_high,
+        object_low,
         0,
-        (id / 256 % 256) as u8,
-        (id % 256) as u8,
+        id_high,
+        id_low,
         0,
         0,
     ]
@@ -66,31 +65,26 @@ pub fn header_row(t: Tally, root: u8, subjects: u8) -> [u8; 16]
     ensures { result ≡ header_of t root subjects }
 {
     let roles = t.users + t.groups + t.specials + t.defaults;
-    let paths = t.paths;
-    let entries = t.entries;
-    let objects = t.objects;
-    let bytes = t.bytes;
-    let moves = t.moves;
-    let used = bytes + 2 * moves + 4 * t.ids;
-    let users = t.users;
-    let groups = t.groups;
-    let specials = t.specials;
+    let used = t.bytes + 2 * t.moves + 4 * t.ids;
+    let [objects_high, objects_low] = (t.objects as u16).to_be_bytes();
+    let [used_high, used_low] = (used as u16).to_be_bytes();
+    let [moves_high, moves_low] = (t.bytes as u16).to_be_bytes();
     [
         1,
         roles as u8,
-        paths as u8,
-        entries as u8,
-        (objects / 256 % 256) as u8,
-        (objects % 256) as u8,
-        (used / 256 % 256) as u8,
-        (used % 256) as u8,
-        users as u8,
-        groups as u8,
-        specials as u8,
+        t.paths as u8,
+        t.entries as u8,
+        objects_high,
+        objects_low,
+        used_high,
+        used_low,
+        t.users as u8,
+        t.groups as u8,
+        t.specials as u8,
         subjects,
         root,
-        moves as u8,
-        (bytes / 256 % 256) as u8,
-        (bytes % 256) as u8,
+        t.moves as u8,
+        moves_high,
+        moves_low,
     ]
 }

@@ -1,4 +1,5 @@
-// Writers: what each frame adds to a lent store, and the header at the end. Each takes the tallies so far and gives the next ones.
+// Writers: what each frame adds to a lent store, and the header at the end. Each takes the tallies so far and gives the next ones, so that
+// store and tallies stay two: a value of both would have to be taken apart for it.
 // Rests on `rows`, `gran` and `store`. What a reader must believe stands in specs/Added.antt, besides what `store` says.
 #![tactic(auto)]
 
@@ -31,13 +32,10 @@ pub fn add_path(store: &mut [u8], t: Tally, path: &[u8]) -> Tally
     requires in_bounds { 16384 ≤ length store.old }
     ensures { PathAdded path.now t store.old result store.new }
 {
-    let size = path.len();
-    let bytes = t.bytes;
-    let at = t.paths * 3;
-    let row = encode::place_row(bytes, size);
-    rows::put_row(&mut store[676..964], at, &row);
-    rows::put_row(&mut store[2948..16384], bytes, path);
-    t.with_path(size)
+    let row = encode::place_row(t.bytes as u16, path.len());
+    rows::put_row(&mut store[676..964], t.paths * 3, &row);
+    rows::put_row(&mut store[2948..16384], t.bytes, path);
+    t.with_path(path.len())
 }
 
 // A move goes behind the pool, before any id.
@@ -47,8 +45,7 @@ pub fn add_move(store: &mut [u8], t: Tally, role: u8, special: u8) -> Tally
     ensures { MoveAdded (record { role = role; special = special }) t store.old result store.new }
 {
     let used = t.bytes + 2 * t.moves;
-    let row = [role, special];
-    rows::put_row(&mut store[2948..16384], used, &row);
+    rows::put_row(&mut store[2948..16384], used, &[role, special]);
     t.with_move()
 }
 
@@ -66,22 +63,20 @@ pub fn add_entry(
     requires in_bounds { 16384 ≤ length store.old }
     ensures { EntryAdded (new_entry subject role caps users groups) t store.old result store.new }
 {
-    let at = t.entries * 12;
-    let objects = t.objects;
     let used = t.bytes + 2 * t.moves + 4 * t.ids;
-    let row = encode::entry_row(objects, used, subject, role, caps, users, groups);
-    rows::put_row(&mut store[1156..1924], at, &row);
+    let objects = t.objects as u16;
+    let row = encode::entry_row(objects, used as u16, subject, role, caps, users, groups);
+    rows::put_row(&mut store[1156..1924], t.entries * 12, &row);
     t.with_entry(users, groups)
 }
 
-// Writes a count into the last entry's row.
+// Writes a count into the last entry's row: its low byte, whatever the count is.
 fn put_count(store: &mut [u8], entries: usize, field: usize, count: usize)
     requires { (0 < entries) × (entries ≤ 64) × (field < 12) × (16384 ≤ length store.old) }
     ensures { store.new ≡ written 1156 768 ((entries - 1) * 12 + field) (count % 256 ∷ []) store.old }
 {
     let at = (entries - 1) * 12 + field;
-    let row = [(count % 256) as u8];
-    rows::put_row(&mut store[1156..1924], at, &row);
+    rows::put_row(&mut store[1156..1924], at, &[(count % 256) as u8]);
 }
 
 // An object's row goes behind the objects, and the last entry has one more.
@@ -90,12 +85,9 @@ pub fn add_object(store: &mut [u8], t: Tally, path: u8, modes: u8) -> Tally
     requires entries_nonzero { (0 < t.entries) × (16384 ≤ length store.old) }
     ensures { ObjectAdded (record { path = path; modes = modes }) t store.old result store.new }
 {
-    let at = t.objects * 2;
-    let row = [path, modes];
-    rows::put_row(&mut store[1924..2948], at, &row);
+    rows::put_row(&mut store[1924..2948], t.objects * 2, &[path, modes]);
     let next = t.with_object();
-    let entries = t.entries;
-    put_count(store, entries, 7, next.last.objects);
+    put_count(store, t.entries, 7, next.last.objects);
     next
 }
 
@@ -105,13 +97,11 @@ fn put_id(store: &mut [u8], t: Tally, id: u32, field: usize, count: usize)
     ensures { store.new ≡ written 1156 768 ((t.entries - 1) * 12 + field) (count % 256 ∷ []) (written 2948 13436 (t.bytes + 2 * t.moves + 4 * t.ids) (four id) store.old) }
 {
     let used = t.bytes + 2 * t.moves + 4 * t.ids;
-    let row = id_bytes(id);
-    rows::put_row(&mut store[2948..16384], used, &row);
-    let entries = t.entries;
-    put_count(store, entries, field, count);
+    rows::put_row(&mut store[2948..16384], used, &id_bytes(id));
+    put_count(store, t.entries, field, count);
 }
 
-// A listed UID of the last entry.
+// A listed UID of the last entry. (What it shares with `add_gid` is `put_id`; they count in other bytes.)
 pub fn add_uid(store: &mut [u8], t: Tally, id: u32) -> Tally
     requires bounded { Bounded (uid_tally t) }
     requires entries_nonzero { (0 < t.entries) × (16384 ≤ length store.old) }

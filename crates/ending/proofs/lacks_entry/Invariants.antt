@@ -1,16 +1,13 @@
 -- `ending::lacks_entry` meets its contract. The invariant: the roles from `i` on decide.
 use mathlib.Core.Path.{◌≡◌}
 use lib.ListN.{length}
-use Rattle.judge.specs.Judge.{Answers}
+use Prim.Native.Nat.{◌-◌}
 use Rattle.gran.specs.Policy.{Policy}
-use Prim.Native.Nat.{◌+◌, ◌-◌, ◌≤◌}
 use Rattle.gran.specs.Lists.{any, numbers}
 use Rattle.store.specs.Layout.{root_of}
 use Rattle.policy.specs.Load.{lacks_entry}
+use Rattle.judge.specs.Judge.{Answers}
 use Rattle.ending.proofs.lacks_entry.Given as goal
 
 abbrev pub invariant-loop-i : goal.invariant-loop-i
-invariant-loop-i l = (l.i ≤ l.roles) × (l.roles ≡ l.t.users + l.t.groups + l.t.specials + l.t.defaults) × Answers l.t l.store (λ (P : Policy). l.root ≡ root_of P → any (lacks_entry P) (numbers 0 (length P.roles)) ≡ any (lacks_entry P) (numbers l.i (length P.roles - l.i)))
-
-abbrev pub decreases-loop-i : goal.decreases-loop-i
-decreases-loop-i l = l.roles - l.i
+invariant-loop-i l = Answers l.loading.tally l.loading.bytes.now (λ (P : Policy). l.root ≡ root_of P → any (lacks_entry P) (numbers 0 (length P.roles)) ≡ any (lacks_entry P) (numbers l.i (length P.roles - l.i)))

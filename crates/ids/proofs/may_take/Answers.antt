@@ -1,36 +1,17 @@
-use mathlib.Core.Path.{◌≡◌, sym, ◌∙◌}
-use mathlib.Core.Bool.{true, false}
-use native.Mathlib.Omega.{arith}
-use borrow.Author.Tests.{eq-eqb, ne_eqb}
-use Rattle.gran.specs.Lists.{any}
-use Rattle.gran.specs.Role.{is_move, may_take}
-use Rattle.fields.specs.Fields.{row, move_read}
+-- `may_take` meets its contract: no special role, or some move is from the role to it.
+use Rattle.std.proofs.Common.{rules, tests, refl, ◌∙◌, ℕ, arith}
+use Rattle.std.proofs.lemmas.Iterator.{YieldsList-from_range}
+use Rattle.std.proofs.lemmas.Iterator.Search.{any_from_yields_List}
+use borrow.Author.Tests.{ne_eqb}
+use Rattle.gran.specs.Role.{is_move}
+use Rattle.fields.specs.Fields.{move_read}
 use Rattle.ids.proofs.Read.{take_read}
-use Rattle.ids.proofs.Rows.{any_here, any_next, any-end}
+use Rattle.ids.proofs.Rows.{any_row}
 use Rattle.ids.proofs.may_take.Goals as goal
 
-pub returns-then-special-eq-NONE : goal.returns-then-special-eq-NONE
-unfolding may_take
-returns-then-special-eq-NONE c P rest L = rw (eq-eqb _ _ c.if-special-eq-NONE.true)
-
-pub returns-then-is_move : goal.returns-then-is_move
-returns-then-is_move c P rest L =
-    let A = c.args in
-    let far : any (is_move A.role A.special) (row (move_read A.store.now) 0 c.move_count-count.result) ≡ true =
-    c.loop-i.invariant.1 ∙ any_here (move_read A.store.now) c.move_count-count.result c.loop-i.i (is_move A.role A.special) (omega arith) (rw (← c.is_move.ensures) c.if-is_move.true) in
-    rw (← take_read L A.role A.special, ne_eqb _ _ c.if-special-eq-NONE.false, ← c.move_count-count.ensures) (sym far)
-
-pub loop-i-preserved : goal.loop-i-preserved
-loop-i-preserved c =
-    let A = c.args in (
-      omega arith,
-      c.loop-i.invariant.1
-          ∙ any_next (move_read A.store.now) c.move_count-count.result c.loop-i.i (is_move A.role A.special) (omega arith) (rw (← c.is_move.ensures) c.if-is_move.false),
-    )
-
-pub returns : goal.returns
-returns c P rest L =
-    let A = c.args in
-    let far : any (is_move A.role A.special) (row (move_read A.store.now) 0 c.move_count-count.result) ≡ false =
-    c.loop-i.invariant.1 ∙ any-end (move_read A.store.now) c.move_count-count.result c.loop-i.i (is_move A.role A.special) (omega arith) in
-    rw (← take_read L A.role A.special, ne_eqb _ _ c.if-special-eq-NONE.false, ← c.move_count-count.ensures) (sym far)
+pub returns-else-special : goal.returns-else-special
+returns-else-special c P rest L =
+    let a = c.args in
+    rw (← take_read L a.role a.special, ne_eqb _ _ c.if-special.false)
+    (any_from_yields_List (λ (i : ℕ). is_move a.role a.special (move_read a.store.now i)) _ _ _ c.any.ensures.ran (YieldsList-from_range 0 c.move_count.result c.move_count.result refl (omega arith)) (λ x b q k. search (rules, tests))
+    ∙ rw c.move_count.ensures (any_row (move_read a.store.now) (is_move a.role a.special) 0 _))

@@ -1,27 +1,15 @@
-use mathlib.Core.Path.{sym, ◌∙◌}
-use native.Mathlib.Omega.{arith}
+-- `role_of` meets its contract: the first role that is of the kind and has the id.
+use Rattle.std.proofs.Common.{rules, tests, refl, ◌∙◌, ℕ, arith}
+use Rattle.std.proofs.lemmas.Iterator.{YieldsList-from_range}
+use Rattle.std.proofs.lemmas.Iterator.Search.{find_from_yields_List}
 use Rattle.gran.specs.Role.{is_role}
 use Rattle.fields.specs.Fields.{role_read}
 use Rattle.ids.proofs.Read.{role-read}
-use Rattle.ids.proofs.Rows.{place_here, place-next, place_end}
+use Rattle.ids.proofs.Rows.{place_found}
 use Rattle.ids.proofs.role_of.Goals as goal
-
-pub returns-then-is_role : goal.returns-then-is_role
-returns-then-is_role c P rest L =
-    let A = c.args in
-    sym (rw (← role-read L A.kind A.id, ← c.role_count-count.ensures) (c.loop-r.invariant.1
-    ∙ place_here (role_read A.store.now) c.role_count-count.result c.loop-r.r (is_role A.kind A.id) (omega arith) (rw (← c.is_role.ensures) c.if-is_role.true)))
-
-pub loop-r-preserved : goal.loop-r-preserved
-loop-r-preserved c =
-    let A = c.args in (
-      omega arith,
-      c.loop-r.invariant.1
-          ∙ place-next (role_read A.store.now) c.role_count-count.result c.loop-r.r (is_role A.kind A.id) (omega arith) (rw (← c.is_role.ensures) c.if-is_role.false),
-    )
 
 pub returns : goal.returns
 returns c P rest L =
-    let A = c.args in
-    sym (rw (← role-read L A.kind A.id, ← c.role_count-count.ensures) (c.loop-r.invariant.1
-    ∙ place_end (role_read A.store.now) c.role_count-count.result c.loop-r.r (is_role A.kind A.id) (omega arith)))
+    let a = c.args in
+    let found = find_from_yields_List (λ (i : ℕ). is_role a.kind a.id (role_read a.store.now i)) _ _ c.find.result c.find.ensures.ran (YieldsList-from_range 0 c.role_count.result c.role_count.result refl (omega arith)) (λ x b q k. search (rules, tests)) in
+    c.unwrap_or.ensures ∙ place_found (role_read a.store.now) (is_role a.kind a.id) c.find.result _ found ∙ rw c.role_count.ensures (role-read L a.kind a.id)

@@ -1,11 +1,7 @@
 -- `lines::decode_first` meets its contract. The invariant is `Decoding`: what was decoded so far, and what is left.
-use Prim.Native.Nat.{◌-◌}
-use lib.ListN.{length}
+use Rattle.std.proofs.Common.{◌*◌}
 use Rattle.lines.proofs.Decoding.{Decoding}
 use Rattle.lines.proofs.decode_first.Given as goal
 
-abbrev pub invariant-loop-k : goal.invariant-loop-k
-invariant-loop-k l = Decoding l.text l.bytes l.i l.k
-
-abbrev pub decreases-loop-k : goal.decreases-loop-k
-decreases-loop-k l = length l.text - l.k
+abbrev pub invariant-loop-i : goal.invariant-loop-i
+invariant-loop-i l = Decoding l.text l.bytes l.i (2 * l.i)

@@ -13,4 +13,4 @@ loop-v-init c = (omega arith, refl, λ b h. get_or-replicate {A = ℕ} 256 b 256
 pub loop-v-preserved : goal.loop-v-preserved
 loop-v-preserved c =
     let l = c.loop-v in
-    (omega arith, length-set l.values _ _ ∙ l.invariant.1, rw c.digit-b.ensures (digits-next l.values l.v c.loop-v-test.true l.invariant.1 l.invariant.2))
+    (omega arith, length-set l.values _ _ ∙ l.invariant.1, rw (c.from-in-loop-v.ensures, c.digit.ensures, c.from.ensures) (digits-next l.values l.v c.loop-v-test.true l.invariant.1 l.invariant.2))

@@ -1,62 +1,85 @@
-use borrow.Author.Rules.{rules}
-use mathlib.Core.Path.{◌∙◌, refl}
+use mathlib.Core.Path.{◌∙◌, refl, sym}
 use native.Mathlib.Omega.{arith}
+use borrow.Author.Rules.{rules}
 use lib.ListN.{drop}
-use Rattle.load.proofs.AllLines.{loading-begins, loading_past, can_read, step_span, loading_goes_on, loading_stops, ends_short, ends-whole}
+use Rattle.std.proofs.Common.{◌≡◌, ◌+◌, Ok, Err}
+use Rattle.std.proofs.lemmas.Result.{err_from_is_err_and}
+use Rattle.load.proofs.AllLines.{some_left, none_left, tail_is, loading-begins, loading_past, can_read, step_span, loading_goes_on, loading_stops, ends_short, ends-whole}
 use Rattle.load.proofs.read_lines.Goals as goal
 
-pub loop-at-init : goal.loop-at-init
-loop-at-init c =
-    (loading-begins c.args.text.now c.args.store.now _ c.requires.cleared _ c.empty-t.ensures, refl, c.requires.text_len_bound.1, refl)
+pub loop-rest-init : goal.loop-rest-init
+loop-rest-init c = record { loading = loading-begins c.args.text.now c.args.store.now _ c.requires.cleared _ c.empty-tally.ensures; kept = refl; marks = refl }
 
-pub read_line-step-requires : goal.read_line-step-requires
-read_line-step-requires c =
-    let l = c.loop-at in
-    record { can_read = can_read c.args.text.now (drop 16384 c.args.store.now) l.store l.marks l.t l.last l.line l.at l.invariant.0 c.requires.text_len_bound.0; digits = (c.digits-values.ensures, l.invariant.2, l.invariant.3) }
+pub read_line-read-requires-clause-can_read : goal.read_line-read-requires-clause-can_read
+read_line-read-requires-clause-can_read c =
+    let l = c.loop-rest in
+    can_read c.args.text.now (drop 16384 c.args.store.now) l.store l.marks l.tally l.last l.line l.rest.now l.invariant.loading c.requires.text_len_bound.0
 
-pub returns-then-number-ne0 : goal.returns-then-number-ne0
-returns-then-number-ne0 c =
-    let l = c.loop-at in
-    let r = c.read_line-step.ensures in
+pub returns-in_err-step : goal.returns-in_err-step
+returns-in_err-step c =
+    let l = c.loop-rest in
+    let stop = c.in_err-step.field-0.0 in
+    let e : c.read_line-read.result ≡ Err stop.refusal = grind arith in
+    let line_is : stop.line ≡ l.line + 1 = grind arith in
+    let some = some_left l.rest.now c.loop-rest-test.ensures in
+    let r = rw e at c.read_line-read.ensures in
+    let p = err_from_is_err_and c.from_residual.result c.from_residual.ensures.1 in
+    rw (p.1, p.2) (record {
+      kept = r.kept ∙ l.invariant.kept;
+      past = rw r.same (loading_past c.args.text.now (drop 16384 c.args.store.now) l.store l.marks l.tally l.last l.line l.rest.now l.invariant.loading);
+      whole = tt;
+      stopped = rw line_is (loading_stops c.args.text.now (drop 16384 c.args.store.now) l.store l.marks l.tally l.last l.line l.rest.now l.invariant.loading some _ _ stop.refusal r);
+    })
+
+pub slice_bounds-rest-count : goal.slice_bounds-rest-count
+slice_bounds-rest-count c =
+    let l = c.loop-rest in
+    let e : c.read_line-read.result ≡ Ok c.in_ok-step.step = grind arith in
+    let some = some_left l.rest.now c.loop-rest-test.ensures in
+    let r = rw e at c.read_line-read.ensures in
+    (step_span c.args.text.now (drop 16384 c.args.store.now) l.store l.marks l.tally l.last l.line l.rest.now l.invariant.loading some _ _ _ r).1
+
+pub slice_bounds-rest-start : goal.slice_bounds-rest-start
+slice_bounds-rest-start c = let inside = slice_bounds-rest-count c in search rules
+
+pub loop-rest-smaller : goal.loop-rest-smaller
+loop-rest-smaller c =
+    let l = c.loop-rest in
+    let e : c.read_line-read.result ≡ Ok c.in_ok-step.step = grind arith in
+    let some = some_left l.rest.now c.loop-rest-test.ensures in
+    let r = rw e at c.read_line-read.ensures in
+    omega (arith, step_span c.args.text.now (drop 16384 c.args.store.now) l.store l.marks l.tally l.last l.line l.rest.now l.invariant.loading some _ _ _ r)
+
+pub loop-rest-preserved : goal.loop-rest-preserved
+loop-rest-preserved c =
+    let l = c.loop-rest in
+    let e : c.read_line-read.result ≡ Ok c.in_ok-step.step = grind arith in
+    let some = some_left l.rest.now c.loop-rest-test.ensures in
+    let r = rw e at c.read_line-read.ensures in
     record {
-      kept = r.kept ∙ l.invariant.1;
-      past = rw (r.same c.if-number-ne0.true) (loading_past c.args.text.now (drop 16384 c.args.store.now) l.store l.marks l.t l.last l.line l.at l.invariant.0);
-      stopped = λ n. loading_stops c.args.text.now (drop 16384 c.args.store.now) l.store l.marks l.t l.last l.line l.at l.invariant.0 c.loop-at-test.true _ _ _ _ _ _ r n;
-      whole = λ z. absurd (c.if-number-ne0.true z);
+      loading = rw (tail_is l.rest.now c.in_ok-step.step.size) (loading_goes_on c.args.text.now (drop 16384 c.args.store.now) l.store l.marks l.tally l.last l.line l.rest.now l.invariant.loading some _ _ _ r);
+      kept = r.kept ∙ l.invariant.kept;
+      marks = search rules;
     }
 
-pub overflow_add-at : goal.overflow_add-at
-overflow_add-at c =
-    let l = c.loop-at in
-    omega (arith, step_span c.args.text.now (drop 16384 c.args.store.now) l.store l.marks l.t l.last l.line l.at l.invariant.0 c.loop-at-test.true _ _ _ _ _ _ c.read_line-step.ensures c.if-number-ne0.false)
-
-pub loop-at-smaller : goal.loop-at-smaller
-loop-at-smaller c =
-    let l = c.loop-at in
-    omega (arith, step_span c.args.text.now (drop 16384 c.args.store.now) l.store l.marks l.t l.last l.line l.at l.invariant.0 c.loop-at-test.true _ _ _ _ _ _ c.read_line-step.ensures c.if-number-ne0.false)
-
-pub loop-at-preserved : goal.loop-at-preserved
-loop-at-preserved c =
-    let l = c.loop-at in
-    let r = c.read_line-step.ensures in
-    (loading_goes_on c.args.text.now (drop 16384 c.args.store.now) l.store l.marks l.t l.last l.line l.at l.invariant.0 c.loop-at-test.true _ _ _ _ _ _ r c.if-number-ne0.false, r.kept ∙ l.invariant.1, rw r.kept l.invariant.2, search rules)
-
-pub returns-then-last-ne127 : goal.returns-then-last-ne127
-returns-then-last-ne127 c =
-    let l = c.loop-at in
-    record {
-      kept = l.invariant.1;
-      past = loading_past c.args.text.now (drop 16384 c.args.store.now) l.store l.marks l.t l.last l.line l.at l.invariant.0;
-      stopped = λ n. ends_short c.args.text.now (drop 16384 c.args.store.now) l.store l.marks l.t l.last l.line l.at l.invariant.0 c.loop-at-test.false c.if-last-ne127.true;
-      whole = λ z. absurd (omega arith);
-    }
+pub returns-then-last-code : goal.returns-then-last-code
+returns-then-last-code c =
+    let l = c.loop-rest in
+    let end = none_left l.rest.now c.loop-rest-test.ensures in
+    rw c.into.ensures (record {
+      kept = l.invariant.kept;
+      past = loading_past c.args.text.now (drop 16384 c.args.store.now) l.store l.marks l.tally l.last l.line l.rest.now l.invariant.loading;
+      whole = tt;
+      stopped = ends_short c.args.text.now (drop 16384 c.args.store.now) l.store l.marks l.tally l.last l.line l.rest.now l.invariant.loading end (λ e. c.if-last-code.true (e ∙ sym c.code.ensures));
+    })
 
 pub returns : goal.returns
 returns c =
-    let l = c.loop-at in
+    let l = c.loop-rest in
+    let end = none_left l.rest.now c.loop-rest-test.ensures in
     record {
-      kept = l.invariant.1;
-      past = loading_past c.args.text.now (drop 16384 c.args.store.now) l.store l.marks l.t l.last l.line l.at l.invariant.0;
-      stopped = λ n. absurd (n refl);
-      whole = λ z. ends-whole c.args.text.now (drop 16384 c.args.store.now) l.store l.marks l.t l.last l.line l.at l.invariant.0 c.loop-at-test.false c.if-last-ne127.false;
+      kept = l.invariant.kept;
+      past = loading_past c.args.text.now (drop 16384 c.args.store.now) l.store l.marks l.tally l.last l.line l.rest.now l.invariant.loading;
+      whole = ends-whole c.args.text.now (drop 16384 c.args.store.now) l.store l.marks l.tally l.last l.line l.rest.now l.invariant.loading end (c.if-last-code.false ∙ c.code.ensures);
+      stopped = tt;
     }

@@ -1,11 +1,7 @@
 -- `best_place` meets its contract. The invariant: the best of the places passed.
-use Prim.Native.Nat.{◌≤◌, ◌-◌}
-use mathlib.Core.Path.{◌≡◌}
-use Rattle.lookup.specs.Best.{best_of, grade_at}
+use Rattle.std.proofs.Common.{◌≡◌, ℕ, ◌<◌}
+use Rattle.lookup.specs.Best.{best_of}
 use Rattle.lookup.proofs.best_place.Given as goal
 
 abbrev pub invariant-loop-i : goal.invariant-loop-i
-invariant-loop-i l = (l.i ≤ l.count) × (l.best ≡ best_of (grade_at l.store l.of l.row) l.i)
-
-abbrev pub decreases-loop-i : goal.decreases-loop-i
-decreases-loop-i l = l.count - l.i
+invariant-loop-i g l = (row : ℕ → ℕ) → ((i v : ℕ) → i < l.count → goal.F-post g l.grade i v → v ≡ row i) → l.best ≡ best_of row l.i

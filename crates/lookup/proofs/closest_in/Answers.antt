@@ -1,11 +1,10 @@
-use mathlib.Core.Path.{◌≡◌}
-use native.Mathlib.Omega.{arith}
-use lib.ListN.{length}
+-- `closest_in` meets its contract: the best place among the listed paths.
+use Rattle.std.proofs.Common.{rules}
+use Rattle.lookup.specs.Best.{grade_listed}
 use Rattle.lookup.proofs.Listed.{listed-closest}
 use Rattle.lookup.proofs.closest_in.Goals as goal
 
 pub returns : goal.returns
 returns c P rest L own =
-    let given = c.args in
-    let e : c.loop-i.i ≡ length given.list.now = omega arith in
-    rw (c.loop-i.invariant.1, e, own) (listed-closest L given.file.now)
+    let args = c.args in
+    rw (c.best_place.ensures (grade_listed args.store.now args.file.now args.list.now) (search rules), own) (listed-closest L args.file.now)

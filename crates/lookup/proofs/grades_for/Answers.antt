@@ -1,11 +1,9 @@
-use mathlib.Core.Path.{◌∙◌}
-use native.Mathlib.Omega.{arith}
+use Rattle.std.proofs.Common.{◌∙◌, arith, ◌<◌}
 use Rattle.fields.proofs.Header.{path-count}
 use Rattle.lookup.proofs.Found.{grade_read}
 use Rattle.lookup.proofs.grades_for.Goals as goal
 
-pub returns-then-count-gt-PATHS : goal.returns-then-count-gt-PATHS
-returns-then-count-gt-PATHS c P rest L = absurd (omega (arith, c.path_count-count.ensures, path-count L, L.good.few_paths))
-
 pub returns : goal.returns
-returns c P rest L k l = c.loop-c.invariant.2 k (omega (arith, c.path_count-count.ensures, path-count L)) ∙ grade_read L _ k l
+returns c P rest L k l =
+    let passed : k < c.loop-c.c = grind (arith, c.path_count.ensures, path-count L, L.good.few_paths) in
+    c.loop-c.invariant.1 k passed ∙ grade_read L _ k l

@@ -10,12 +10,12 @@ unfolding path_from
 returns c =
     responded
     c.args.text.now
-    (asked_by c.args.question c.args.start c.args.target)
+    (asked_by c.args.account.now c.args.start.now c.args.target.now)
     (record { store = c.fresh_store-store.result; work = c.fresh_work-work.result; room = c.args.output.now })
     _
     _
     _
     (search rules)
     (search rules)
-    (rw (c.number4-uid.ensures c.args.question.size, c.number4-gid.ensures c.args.question.size, c.byte-kind.ensures) at c.ask-answer.ensures)
+    (rw (c.number4.ensures c.args.account.now.size, c.number4-2.ensures c.args.account.now.size, c.byte.ensures) at c.ask-answer.ensures)
     c.tell.ensures

@@ -1,26 +1,26 @@
--- `replay_loaded` meets its contract: each turn takes one record more, and the walk at its end says what the whole row does.
-use mathlib.Core.Path.{◌∙◌}
-use Rattle.replay.proofs.Turns as turns
+-- `replay_loaded` meets its contract: each turn takes one record more, and the actor at the end says what the whole row does.
+use mathlib.Core.Path.{sym, ◌∙◌}
+use Rattle.replay.proofs.Turns.{follow_here, follow_past}
 use Rattle.replay.proofs.replay_loaded.Goals as goal
 
-pub loop-w-init : goal.loop-w-init
-loop-w-init c = turns.begins c.args.store.now c.args.begin.now c.args.uid c.args.gid c.args.steps.now c.begun-w.result c.begun-w.ensures
+pub loop-at-preserved : goal.loop-at-preserved
+loop-at-preserved c =
+    let u = c.loop-at.invariant in
+    record {
+      same_store = u.same_store;
+      same_begin = u.same_begin;
+      same = λ P rest L q.
+          let taken = rw u.same_begin at (c.is_step.ensures P rest (rw u.same_store L)) in
+          rw c.done_by-actor.ensures (sym (follow_here P q _ _ _ _ c.loop-at-test.true ∙ rw (← taken, c.if-not-is_step.false)) ∙ u.same P rest L q);
+    }
 
-pub loop-w-smaller : goal.loop-w-smaller
-loop-w-smaller c =
-    let a = c.args in
-    let l = c.loop-w in
-    (turns.turn a.store.now a.begin.now a.uid a.gid a.steps.now l.w l.invariant c.loop-w-test.true c.advance-w.result c.advance-w.ensures).1
-
-pub loop-w-preserved : goal.loop-w-preserved
-loop-w-preserved c =
-    let a = c.args in
-    let l = c.loop-w in
-    (turns.turn a.store.now a.begin.now a.uid a.gid a.steps.now l.w l.invariant c.loop-w-test.true c.advance-w.result c.advance-w.ensures).0
+pub returns-then-not-is_step : goal.returns-then-not-is_step
+returns-then-not-is_step c P rest L =
+    let u = c.loop-at.invariant in
+    let taken = rw u.same_begin at (c.is_step.ensures P rest (rw u.same_store L)) in
+    sym (follow_here P _ _ _ _ _ c.loop-at-test.true ∙ rw (← taken, c.if-not-is_step.true)) ∙ u.same P rest L _
 
 pub returns : goal.returns
-returns c P rest loaded =
-    let a = c.args in
-    let l = c.loop-w in
-    c.conclude.ensures P rest loaded
-    ∙ turns.ends a.store.now a.begin.now a.uid a.gid a.steps.now l.w l.invariant c.loop-w-test.false P rest loaded (record { kind = a.kind; target = a.target.now })
+returns c P rest L =
+    let u = c.loop-at.invariant in
+    rw u.same_begin at (c.end.ensures P rest (rw u.same_store L)) ∙ sym (follow_past P _ _ _ _ _ c.loop-at-test.false) ∙ u.same P rest L _

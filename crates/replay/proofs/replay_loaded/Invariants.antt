@@ -1,9 +1,6 @@
--- `replay_loaded` meets its contract. The invariant: the walk is under way over the row. The measure is the number of records that are left.
-use Rattle.replay.proofs.Turns.{left, Under}
+-- `replay_loaded` meets its contract. The invariant: the actor is under way over the row.
+use Rattle.replay.proofs.Turns.{Under}
 use Rattle.replay.proofs.replay_loaded.Given as goal
 
-abbrev pub invariant-loop-w : goal.invariant-loop-w
-invariant-loop-w l = Under l.store l.begin l.uid l.gid l.steps l.w
-
-abbrev pub decreases-loop-w : goal.decreases-loop-w
-decreases-loop-w l = left l.w
+abbrev pub invariant-loop-at : goal.invariant-loop-at
+invariant-loop-at l = Under l.store l.fn.asked.start.now l.fn.asked.uid l.fn.asked.gid l.steps l.actor l.at

@@ -11,5 +11,5 @@ returns-then-room-lt-SUMMARY c = told_short (summary 0 c.args.opened 0) c.args.r
 
 pub returns : goal.returns
 returns c =
-    let p = put_first c.put_summary-size.ensures in
+    let p = put_first c.put_summary.ensures in
     told-whole (summary 0 c.args.opened 0) c.args.room.now _ p.0 (omega (arith, p.0, summary-length 0 c.args.opened 0, c.if-room-lt-SUMMARY.false)) _ p.1

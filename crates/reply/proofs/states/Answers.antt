@@ -4,4 +4,4 @@ use Rattle.numbered.proofs.Members.{sized}
 use Rattle.reply.proofs.states.Goals as goal
 
 pub all_states-requires : goal.all_states-requires
-all_states-requires c = rw c.sizes-z.ensures (sized (policy_in c.args.store.now) c.requires.good)
+all_states-requires c = rw c.sizes.ensures (sized (policy_in c.args.store.now) c.requires.good)

@@ -11,8 +11,8 @@ pub returns : goal.returns
 unfolding exec_record
 returns c P rest q β loaded tabled inside known h user group seen = rw (
   c.exec.ensures,
-  c.gid_after-gid.ensures P rest loaded known (rw seen (choice_known P GROUP β.group inside.group)) group,
-  c.uid_after-uid.ensures P rest loaded known (rw seen (choice_known P USER β.user inside.user)) user,
+  c.id_after-gid.ensures P rest loaded known (rw seen (choice_known P GROUP β.group inside.group)) group,
+  c.id_after-uid.ensures P rest loaded known (rw seen (choice_known P USER β.user inside.user)) user,
   c.file_for-file.ensures,
   c.object_path-object.ensures,
   path_is loaded _ known _ h,

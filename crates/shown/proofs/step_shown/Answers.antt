@@ -1,6 +1,6 @@
 -- `shown::step_shown` meets its contract: the two states are read, the entry in force is found, and the mark says which record it is.
 use mathlib.Core.Path.{◌≡◌, sym, ap, ◌∙◌}
-use mathlib.Core.Bool.{So}
+use mathlib.Core.Bool.{So, false≢true}
 use mathlib.Core.List.{List}
 use Prim.Native.Nat.{ℕ, ◌%◌}
 use native.Mathlib.Omega.{arith}
@@ -13,7 +13,7 @@ use Rattle.store.specs.Held.{Loaded}
 use Rattle.lookup.specs.Lookup.{entry_at, InForce}
 use Rattle.numbered.specs.Number.{Inside, state_number}
 use Rattle.numbered.specs.Candidates.{label_of}
-use Rattle.numbered.proofs.Members.{choice_known}
+use Rattle.numbered.proofs.Members.{choice_known, sized}
 use Rattle.numbered.proofs.Numbers.{next_inside}
 use Rattle.shown.specs.Shown.{Going, seen_of}
 use Rattle.shown.specs.declared.Seen.{Seen}
@@ -53,34 +53,38 @@ read c P rest q begin α a loaded going m from to = record {
     force : InForce P (role P α) (path_at P.paths α.subject) c.entry_at-entry.result
     force = c.entry_at-entry.ensures P q α loaded.good going.tabled going.inside before
 
-pub returns-then-label-eq-SPECIAL_LABEL : goal.returns-then-label-eq-SPECIAL_LABEL
-returns-then-label-eq-SPECIAL_LABEL c P rest q begin α a loaded going m from to label =
-    let r = read (goal.at.returns-then-label-eq-SPECIAL_LABEL c).After-entry_at-entry P rest q begin α a loaded going m from to in
-    rw (c.special.ensures, r.after) (sym (marked_is loaded.good going a m _ r.force ∙ first_of 96 _ _ _ _ _ (sym label ∙ c.if-label-eq-SPECIAL_LABEL.true)))
+pub returns-then-not-is_sized : goal.returns-then-not-is_sized
+returns-then-not-is_sized c P rest q begin α a loaded going m from to label =
+    absurd (false≢true (sym c.if-not-is_sized.true ∙ c.is_sized.ensures.1 (rw going.sizes (sized P loaded.good))))
 
-pub returns-then-label-eq-USER_LABEL : goal.returns-then-label-eq-USER_LABEL
-returns-then-label-eq-USER_LABEL c P rest q begin α a loaded going m from to label =
-    let r = read (goal.at.returns-then-label-eq-USER_LABEL c).After-entry_at-entry P rest q begin α a loaded going m from to in
-    rw (c.user.ensures, c.id_for_user.ensures P rest loaded r.force.inside (rw r.after (choice_known P USER (next α a).user r.stays.user)), r.after)
-    (sym (marked_is loaded.good going a m _ r.force ∙ second_of 96 _ _ _ _ _ (λ e. c.if-label-eq-SPECIAL_LABEL.false (label ∙ e)) (sym label ∙ c.if-label-eq-USER_LABEL.true)))
+pub returns-in-96 : goal.returns-in-96
+returns-in-96 c P rest q begin α a loaded going m from to label =
+    let r = read (goal.at.returns-in-96 c).After-entry_at-entry P rest q begin α a loaded going m from to in
+    rw (c.special-in-96.ensures, r.after) (sym (marked_is loaded.good going a m _ r.force ∙ first_of 96 _ _ _ _ _ (sym label ∙ c.in-96.is)))
 
-pub returns-then-label-eq-GROUP_LABEL : goal.returns-then-label-eq-GROUP_LABEL
-returns-then-label-eq-GROUP_LABEL c P rest q begin α a loaded going m from to label =
-    let r = read (goal.at.returns-then-label-eq-GROUP_LABEL c).After-entry_at-entry P rest q begin α a loaded going m from to in
-    rw (c.group.ensures, c.id_for_group.ensures P rest loaded r.force.inside (rw r.after (choice_known P GROUP (next α a).group r.stays.group)), r.after)
-    (sym (marked_is loaded.good going a m _ r.force ∙ third_of 96 _ _ _ _ _ (λ e. c.if-label-eq-SPECIAL_LABEL.false (label ∙ e)) (λ e. c.if-label-eq-USER_LABEL.false (label ∙ e)) (sym label ∙ c.if-label-eq-GROUP_LABEL.true)))
+pub returns-in-97 : goal.returns-in-97
+returns-in-97 c P rest q begin α a loaded going m from to label =
+    let r = read (goal.at.returns-in-97 c).After-entry_at-entry P rest q begin α a loaded going m from to in
+    rw (c.user.ensures, c.id_for.ensures P rest loaded r.force.inside (rw r.after (choice_known P USER (next α a).user r.stays.user)), r.after)
+    (sym (marked_is loaded.good going a m _ r.force ∙ second_of 96 _ _ _ _ _ (λ e. omega arith) (sym label ∙ c.in-97.is)))
 
-pub returns : goal.returns
-returns c P rest q begin α a loaded going m from to label =
-    let r = read (goal.at.returns c).After-entry_at-entry P rest q begin α a loaded going m from to in
-    let not-special : label_of P α a ≡ 96 → ⊥ = λ e. c.if-label-eq-SPECIAL_LABEL.false (label ∙ e) in
-    let not-user : label_of P α a ≡ 97 → ⊥ = λ e. c.if-label-eq-USER_LABEL.false (label ∙ e) in
-    let not-group : label_of P α a ≡ 98 → ⊥ = λ e. c.if-label-eq-GROUP_LABEL.false (label ∙ e) in
+pub returns-in-98 : goal.returns-in-98
+returns-in-98 c P rest q begin α a loaded going m from to label =
+    let r = read (goal.at.returns-in-98 c).After-entry_at-entry P rest q begin α a loaded going m from to in
+    rw (c.group.ensures, c.id_for-in-98.ensures P rest loaded r.force.inside (rw r.after (choice_known P GROUP (next α a).group r.stays.group)), r.after)
+    (sym (marked_is loaded.good going a m _ r.force ∙ third_of 96 _ _ _ _ _ (λ e. omega arith) (λ e. omega arith) (sym label ∙ c.in-98.is)))
+
+pub returns-in_default : goal.returns-in_default
+returns-in_default c P rest q begin α a loaded going m from to label =
+    let r = read (goal.at.returns-in_default c).After-entry_at-entry P rest q begin α a loaded going m from to in
+    let not-special : label_of P α a ≡ 96 → ⊥ = λ e. omega arith in
+    let not-user : label_of P α a ≡ 97 → ⊥ = λ e. omega arith in
+    let not-group : label_of P α a ≡ 98 → ⊥ = λ e. omega arith in
     let inside = label_inside P loaded.good α a m not-special not-user not-group in
     let place : c.args.label % 256 ≡ label_of P α a = omega (arith, inside.0) in
-    c.exec_shown.ensures P rest q (next α a) loaded going.tabled r.stays r.force.inside
-    (rw (place, ← r.objects) inside.1)
+    rw (c.to_be_bytes.ensures) at (c.exec_shown.ensures P rest q (next α a) loaded going.tabled r.stays r.force.inside
+    (rw (c.to_be_bytes.ensures, place, ← r.objects) inside.1)
     (ap (λ (s : Seen). s.user) r.before ∙ sym (user_is loaded.good going))
     (ap (λ (s : Seen). s.group) r.before ∙ sym (group_is loaded.good going))
-    r.after
+    r.after)
     ∙ rw place (sym (marked_is loaded.good going a m _ r.force ∙ fourth_of 96 _ _ _ _ _ not-special not-user not-group))

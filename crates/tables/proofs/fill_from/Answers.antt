@@ -9,21 +9,17 @@ use Rattle.tables.proofs.Parts.{parts_none, parts_more}
 use Rattle.tables.proofs.Whole.{few, subjects_are, tabled_of}
 use Rattle.tables.proofs.fill_from.Goals as goal
 
-pub returns-then-count-gt64 : goal.returns-then-count-gt64
-returns-then-count-gt64 c P rest L listed = absurd (omega (arith, c.if-count-gt64.true, c.subject_count-count.ensures, subject-count L, few L))
-
 pub returns : goal.returns
 returns c P rest L listed =
     let args = c.args in
-    let a = c.copy in
+    let a = c.copy_from_slice in
     let b = c.fill_stands in
     let d = c.fill_tests in
     let e = c.fill_rows in
-    let one = parts_more 96 a.new.part (parts_none args.t.now c.requires.t_len) (omega arith) a.auto.part in
+    let one = parts_more 96 a.new.self (parts_none args.t.now c.requires.t_len) (omega arith) a.auto.self in
     let two = parts_more 96 b.new.part one (omega arith) b.auto.part in
     let three = parts_more 1856 d.new.part two (omega arith) d.auto.part in
     let four = parts_more 6144 e.new.part three (omega arith) e.auto.part in
-    let count : 32 + c.subject_count-count.result - 32 ≡ subject_count args.store.now =
-    omega (arith, c.subject_count-count.ensures) in
+    let count : 32 + c.from-count.result - 32 ≡ subject_count args.store.now = omega (arith, c.from-count.ensures, c.min.ensures, c.subject_count.ensures, subject-count L, few L) in
     let own = ap (λ (n : ℕ). take n (drop 32 args.lists.now)) count ∙ subjects_are L args.lists.now c.requires.lists_len listed in
-    tabled_of L args.lists.now c.requires.lists_len listed _ _ _ _ _ _ _ four a.ensures own b.ensures (d.ensures P rest L listed) e.ensures
+    tabled_of L args.lists.now c.requires.lists_len listed _ _ _ _ _ _ _ four a.ensures.after own b.ensures (d.ensures P rest L listed) e.ensures

@@ -1,12 +1,8 @@
 -- `fill_offer_row` meets its contract: each cell that was passed says whether the row has its choice.
-use mathlib.Core.Path.{◌≡◌}
-use Prim.Native.Nat.{◌+◌, ◌-◌, ◌≤◌}
-use lib.ListN.{length}
-use Rattle.tables.specs.Regions.{Region, Offers}
+use Prim.Native.Nat.{◌+◌}
+use Rattle.tables.specs.Regions.{Region, Offers, role_kind_of}
 use Rattle.tables.proofs.fill_offer_row.Given as goal
 
 abbrev pub invariant-loop-j : goal.invariant-loop-j
-invariant-loop-j l = (l.j ≤ l.count) × (length l.part ≡ length l.initial.part) × (Region l.store (Offers l.kind l.choices) l.at l.initial.part → Region l.store (Offers l.kind l.choices) (l.at + l.j) l.part)
-
-abbrev pub decreases-loop-j : goal.decreases-loop-j
-decreases-loop-j l = l.count - l.j
+invariant-loop-j l =
+    Region l.store (Offers (role_kind_of l.kind) l.choices) l.first l.initial.part → Region l.store (Offers (role_kind_of l.kind) l.choices) (l.first + l.j) l.part

@@ -9,11 +9,6 @@ fill_row-requires c = record { entries_value = (c.index_entries.ensures, c.index
 
 pub loop-k-preserved : goal.loop-k-preserved
 loop-k-preserved c =
-    let args = c.args in
     let loop = c.loop-k in
-    let row = c.fill_row in (
-      omega arith,
-      loop.invariant.1,
-      omega (arith, row.auto.part),
-      rows_more args.store.now args.subjects.now loop.k loop.part _ (omega arith) (omega arith) loop.invariant.3 row.ensures,
-    )
+    let row = c.fill_row in
+    (omega (arith, row.auto.part), rows_more c.args.store.now c.args.subjects.now loop.k loop.part _ (omega arith) (omega arith) loop.invariant.1 row.ensures)

@@ -7,10 +7,9 @@ use Rattle.tables.proofs.fill_tests.Goals as goal
 
 pub returns : goal.returns
 returns c P rest L listed =
-    let grades-for = c.grades_for-g in
+    let grades-for = c.grades_for-grades in
     let args = c.args in
-    let a =
-    c.fill_grants in
+    let a = c.fill_grants in
     let b = c.fill_offers in
     let d = c.put in
     let e = c.fill_offers-2 in
@@ -24,10 +23,10 @@ returns c P rest L listed =
     tests_of L args.lists.now c.requires.lists_len listed args.kind
     c.role_count-roles.result
     c.entry_count-entries.result
-    c.default_role-fallback.result
+    c.default_role.result
     args.target.now grades-for.result.of _ _ lent _ _ _ _ five
     c.role_count-roles.ensures
     c.entry_count-entries.ensures
     (grades-for.ensures P rest L)
-    (c.default_role-fallback.ensures P rest L)
+    (c.default_role.ensures P rest L)
     d.ensures a.ensures b.ensures e.ensures f.ensures

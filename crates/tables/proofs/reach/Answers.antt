@@ -2,12 +2,12 @@
 use mathlib.Core.Path.{ap, ◌∙◌}
 use Rattle.gran.specs.Role.{allows}
 use Rattle.lookup.specs.Lookup.{entry_at}
-use Rattle.ids.specs.Ids.{allowed_of}
-use Rattle.tables.proofs.Reaches.{own_id}
+use Rattle.ids.specs.Ids.{kind_of, allowed_of}
+use Rattle.tables.proofs.Reaches.{named, own_id}
 use Rattle.tables.proofs.reach.Goals as goal
 
 pub returns : goal.returns
 returns c P rest L h choice =
-    let a = allowed_of c.args.kind (entry_at P c.args.e) in
-    c.allows_id.ensures P rest L h ∙ ap (allows a) c.role_id.ensures
-    ∙ own_id L c.args.kind c.requires a c.args.choice c.if-choice-eq-NONE.false choice
+    let k = kind_of c.args.ids in
+    let a = allowed_of k (entry_at P c.args.e) in
+    c.allows.ensures P rest L h ∙ ap (allows a) c.role_id.ensures ∙ own_id L k (named c.args.ids) a c.args.choice c.if-choice-eq-NONE.false choice

@@ -1,18 +1,13 @@
 -- `roles_of` meets its contract: the header states how many roles of each kind there are.
 use mathlib.Core.Path.{◌∙◌}
-use mathlib.Core.Logic.{⊎_elim}
 use Rattle.fields.proofs.Header.{user-count, group-count, special-count}
 use Rattle.tables.proofs.roles_of.Goals as goal
 
-pub returns-then-kind-eq-SPECIAL : goal.returns-then-kind-eq-SPECIAL
-returns-then-kind-eq-SPECIAL c P rest L = rw c.if-kind-eq-SPECIAL.true (c.special_count.ensures ∙ special-count L)
+pub returns-in-Special : goal.returns-in-Special
+returns-in-Special c P rest L = rw c.in-Special.is (c.special_count.ensures ∙ special-count L)
 
-pub returns-then-kind-eq-USER : goal.returns-then-kind-eq-USER
-returns-then-kind-eq-USER c P rest L = rw c.if-kind-eq-USER.true (c.user_count.ensures ∙ user-count L)
+pub returns-in-Of-Users : goal.returns-in-Of-Users
+returns-in-Of-Users c P rest L = let inner = rw c.in-Of-Users.is at c.in-Of-Users.field-0-is in rw (c.in-Of-Users.is, inner) (c.user_count.ensures ∙ user-count L)
 
-pub returns : goal.returns
-returns c P rest L =
-    ⊎_elim
-    (λ user. absurd (c.if-kind-eq-USER.false user))
-    (λ group. rw group (c.group_count.ensures ∙ group-count L))
-    (c.requires c.if-kind-eq-SPECIAL.false)
+pub returns-in-Of-Groups : goal.returns-in-Of-Groups
+returns-in-Of-Groups c P rest L = let inner = rw c.in-Of-Groups.is at c.in-Of-Groups.field-0-is in rw (c.in-Of-Groups.is, inner) (c.group_count.ensures ∙ group-count L)

@@ -1,7 +1,6 @@
 use mathlib.Core.Path.{◌≡◌, refl, sym, ap, ◌∙◌}
 use Prim.Native.Nat.{ℕ, suc, ◌+◌, ◌≤◌, ◌<◌, ◌-◌}
 use native.Mathlib.Omega.{arith}
-use borrow.Author.Tests.{eq-eqb, ne_eqb}
 use Rattle.numbered.specs.Candidates.{goal_at, candidates}
 use Rattle.walk.specs.Walk.{Walk, queued, sweep, search}
 use Rattle.walk.specs.Needed.{walk_of}
@@ -11,7 +10,7 @@ use Rattle.walk.proofs.Full.{sweep_full}
 use Rattle.walk.proofs.Again.{none-set}
 use Rattle.walk.proofs.Targets.{inside-candidates}
 use Rattle.walk.proofs.search.Goals as goal
-use Rattle.walk.proofs.search.Goals.{At-loop-p}
+use Rattle.walk.proofs.search.Goals.{At-loop-p, then-w-via-then-w, then-w-via-else-w+then-w-p, then-w-via-else-w+else-w-p+then-w-all}
 
 -- The function's and the memory, seen from the loop's head.
 abbrev memory : At-loop-p → Walk
@@ -38,20 +37,25 @@ loop-p-init c =
     let first = c.visit-w in
     (rw first.ensures kept, (omega arith, (refl, none-set (walk_of first.new.area first.result) c.none_opened-opened.ensures)))
 
-pub returns-then-met-eq1 : goal.returns-then-met-eq1
-returns-then-met-eq1 c =
-    let s = (goal.at.returns-then-met-eq1 c).At-loop-p in
-    whole (goal.at.returns-then-met-eq1 c).At-loop-p (sweep_met (goal_at s.args.t.now s.args.z) (candidates s.args.store.now s.args.t.now s.args.z) (8192 - c.loop-p.p) c.loop-p.p (memory (goal.at.returns-then-met-eq1 c).At-loop-p) (eq-eqb _ _ c.if-met-eq1.true))
+pub returns-then-w : goal.returns-then-w
+returns-then-w c =
+    let s = (goal.at.returns-then-w c).At-loop-p in
+    let z = c.args.z in
+    let aim = goal_at c.args.t.now z in
+    let steps = candidates c.args.store.now c.args.t.now z in
+    let p = c.loop-p.p in
+    elim c.then-w.branch [
+      | then-w-via-then-w w ↦ whole s (sweep_met aim steps (8192 - p) p (memory s) w.if-w.true)
+      | then-w-via-else-w+then-w-p w ↦ whole s (sweep-done aim steps (8192 - p) p (memory s) w.if-w-p.true)
+      | then-w-via-else-w+else-w-p+then-w-all w ↦
+          whole s (sweep_full z c.requires.1.0.few aim (memory s) c.loop-p.invariant.0 (w.if-w-all.true ∙ c.all_states-all.ensures) steps (inside-candidates c.args.store.now c.args.t.now c.requires.1.0) (8192 - p) p)
+    ]
 
-pub returns-then-w-all : goal.returns-then-w-all
-returns-then-w-all c =
-    let s = (goal.at.returns-then-w-all c).At-loop-p in
-    let all = c.if-w-all.true ∙ c.all_states-all.ensures in
-    whole (goal.at.returns-then-w-all c).At-loop-p (sweep_full s.args.z s.requires.1.0.few (goal_at s.args.t.now s.args.z) (memory (goal.at.returns-then-w-all c).At-loop-p) c.loop-p.invariant.0 all
-    (candidates s.args.store.now s.args.t.now s.args.z) (inside-candidates s.args.store.now s.args.t.now s.requires.1.0) (8192 - c.loop-p.p) c.loop-p.p)
-
-pub bounds-area-place : goal.bounds-area-place
-bounds-area-place c = omega (arith, kept_most (goal.at.bounds-area-place c).At-loop-p.args.z (goal.at.bounds-area-place c).At-loop-p.requires.1.0.few c.loop-p.invariant.0, c.loop-p.invariant.0.long)
+pub expand-w-requires : goal.expand-w-requires
+expand-w-requires c =
+    let s = (goal.at.expand-w-requires c).At-loop-p in
+    let l = c.loop-p in
+    (record { kept = l.invariant.0; place = omega (arith, bound s); sized = s.requires.1.0 }, (rw c.from-n.ensures (l.invariant.0.states l.p c.if-w-p.false), l.invariant.1.1.1))
 
 pub loop-p-preserved : goal.loop-p-preserved
 loop-p-preserved c =
@@ -61,16 +65,16 @@ loop-p-preserved c =
     let steps = candidates s.args.store.now s.args.t.now z in
     let p : ℕ = c.loop-p.p in
     let w : Walk = memory (goal.at.loop-p-preserved c).At-loop-p in
-    let here : p < w.count = omega (arith, c.loop-p-test.true) in
+    let here : p < w.count = c.if-w-p.false in
     let most : w.count ≤ 8192 = bound (goal.at.loop-p-preserved c).At-loop-p in
     let fuel : 8192 - p ≡ suc (8192 - (p + 1)) = omega arith in
-    let turned = c.expand-w.ensures.0 in (
+    let turned = rw c.from-n.ensures at c.expand-w.ensures.0 in (
       rw turned (kept-visits z s.requires.1.0.few aim p (steps (queued w.area p)) (inside-candidates s.args.store.now s.args.t.now s.requires.1.0 (queued w.area p) (c.loop-p.invariant.0.states p here)) c.loop-p.invariant.0),
       (
         omega arith,
         (
           ap (sweep aim steps (8192 - (p + 1)) (p + 1)) turned
-              ∙ sym (sweep_more aim steps (8192 - (p + 1)) p w (ne_eqb _ _ c.if-met-eq1.false) here)
+              ∙ sym (sweep_more aim steps (8192 - (p + 1)) p w c.if-w.false here)
               ∙ ap (λ (f : ℕ). sweep aim steps f p w) (sym fuel) ∙ c.loop-p.invariant.1.1.0,
           c.expand-w.ensures.1,
         ),
@@ -80,4 +84,4 @@ loop-p-preserved c =
 pub returns : goal.returns
 returns c =
     let s = (goal.at.returns c).At-loop-p in
-    whole (goal.at.returns c).At-loop-p (sweep-done (goal_at s.args.t.now s.args.z) (candidates s.args.store.now s.args.t.now s.args.z) (8192 - c.loop-p.p) c.loop-p.p (memory (goal.at.returns c).At-loop-p) (omega arith))
+    whole (goal.at.returns c).At-loop-p (sweep-done (goal_at s.args.t.now s.args.z) (candidates s.args.store.now s.args.t.now s.args.z) (8192 - c.loop-p.p) c.loop-p.p (memory (goal.at.returns c).At-loop-p) (omega (arith, kept_most s.args.z s.requires.1.0.few c.loop-p.invariant.0)))

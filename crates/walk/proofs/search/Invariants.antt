@@ -10,9 +10,6 @@ use Rattle.walk.proofs.search.Given as goal
 
 abbrev pub invariant-loop-p : goal.invariant-loop-p
 invariant-loop-p l =
-    Kept l.z (walk_of l.area l.w) × ((l.p ≤ 8192)
-    × ((sweep (goal_at l.t l.z) (candidates l.store l.t l.z) (8192 - l.p) l.p (walk_of l.area l.w) ≡ sweep (goal_at l.t l.z) (candidates l.store l.t l.z) 8192 0 (walk_of l.initial.area l.initial.w))
-    × Opened l.store l.t l.z l.opened (walk_of l.area l.w)))
-
-abbrev pub decreases-loop-p : goal.decreases-loop-p
-decreases-loop-p l = 8192 - l.p
+    Kept l.fn.z (walk_of l.area l.w) × ((l.p ≤ 8192)
+    × ((sweep (goal_at l.t l.fn.z) (candidates l.store l.t l.fn.z) (8192 - l.p) l.p (walk_of l.area l.w) ≡ sweep (goal_at l.t l.fn.z) (candidates l.store l.t l.fn.z) 8192 0 (walk_of l.initial.area l.initial.w))
+    × Opened l.store l.t l.fn.z l.opened (walk_of l.area l.w)))

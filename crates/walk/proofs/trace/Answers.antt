@@ -10,7 +10,7 @@ use Rattle.walk.proofs.trace.Goals.{In-loop-at}
 pub loop-at-preserved : goal.loop-at-preserved
 loop-at-preserved c =
     let l = c.loop-at in
-    goes_back c.args.area.now c.args.k c.requires.0 c.requires.1 l.invariant c.loop-at-test.true
+    rw (c.from-at.ensures, c.from-state.ensures) (goes_back c.args.area.now c.args.k c.requires.0 c.requires.1 l.invariant c.loop-at-test.true)
 
 pub returns : goal.returns
 returns c =

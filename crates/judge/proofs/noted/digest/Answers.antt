@@ -7,12 +7,11 @@ use Rattle.judge.proofs.noted.digest.Goals as goal
 
 pub loop-i-preserved : goal.loop-i-preserved
 loop-i-preserved c =
-    let path = c.args.path.now in
     let l = c.loop-i in
-    (omega arith, l.invariant.1, omega (arith, product_most (c.loop-i.i + 1) c.wide.result (omega arith) (omega (arith, c.wide.ensures.1))), l.invariant.3 ∙ weighed-next path l.i l.sum c.wide.result c.loop-i-test.true c.wide.ensures.0)
+    (omega (arith, product_most (l.i + 1) c.from.result (omega arith) (omega arith)), l.invariant.1 ∙ weighed-next c.args.path.now l.i l.sum c.from.result c.loop-i-test.true c.from.ensures)
 
 pub returns : goal.returns
 unfolding digest_of
 returns c =
-    let all : c.loop-i.sum ≡ weighed 1 c.args.path.now = omega (arith, c.loop-i.invariant.3, weighed-end c.args.path.now c.loop-i.i c.loop-i-test.false) in
+    let all : c.loop-i.sum ≡ weighed 1 c.args.path.now = omega (arith, c.loop-i.invariant.1, weighed-end c.args.path.now c.loop-i.i c.loop-i-test.false) in
     (ap (λ (n : ℕ). n % 1024) all, omega arith)

@@ -6,13 +6,12 @@ use Rattle.policy.specs.Frames.{frame_in, path_from}
 use Rattle.judge.proofs.Noting.{noted_other, noted_added}
 use Rattle.judge.proofs.noted.note.Goals as goal
 
-pub returns-then-byte-ne32 : goal.returns-then-byte-ne32
-returns-then-byte-ne32 c P noted =
-    let args = c.args in
-    noted_other P (frame_in args.size args.bytes.now) args.marks.now (ne_eqb _ _ (λ e. c.if-byte-ne32.true (c.byte.ensures ∙ e))) noted
-
-pub returns : goal.returns
+pub returns-then-byte-code : goal.returns-then-byte-code
 unfolding path_from
-returns c P noted =
-    let type = eq-eqb _ _ (sym c.byte.ensures ∙ c.if-byte-ne32.false) in
+returns-then-byte-code c P noted =
+    let type = eq-eqb _ _ (sym c.byte.ensures ∙ c.if-byte-code.true ∙ c.code.ensures) in
     rw c.digest-at.ensures.0 (noted_added P (frame_in c.args.size c.args.bytes.now) c.args.marks.now type (omega (arith, c.digest-at.ensures, c.requires)) noted)
+
+pub returns-else-byte-code : goal.returns-else-byte-code
+returns-else-byte-code c P noted =
+    noted_other P (frame_in c.args.size c.args.bytes.now) c.args.marks.now (ne_eqb _ _ (λ e. c.if-byte-code.false (c.byte.ensures ∙ e ∙ sym c.code.ensures))) noted

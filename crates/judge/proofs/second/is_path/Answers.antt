@@ -8,16 +8,13 @@ use Rattle.judge.proofs.second.is_path.Goals as goal
 pub returns-then-path-size : goal.returns-then-path-size
 returns-then-path-size c = λ P rest t bounded h l.
     let a = c.args in
-    sym (same_long a.path.now _ (λ e. c.if-path-size.true (e ∙ sym (path-size P rest t a.store.now bounded h a.number l) ∙ sym c.wide-size.ensures.0)))
+    sym (same_long a.path.now _ (λ e. c.if-path-size.true (e ∙ sym (path-size P rest t a.store.now bounded h a.number l) ∙ sym c.from-size.ensures)))
 
 pub returns-then-store-end : goal.returns-then-store-end
 returns-then-store-end c P rest t bounded h l =
     let a = c.args in
     absurd (omega (
       arith,
-      c.wide-2.ensures.0,
-      c.wide.ensures.0,
-      c.wide-size.ensures.0,
       path-size P rest t a.store.now bounded h a.number l,
       path-place P rest t a.store.now bounded h a.number l,
       path-fits P rest t a.store.now bounded h a.number l,
@@ -28,6 +25,6 @@ returns c = λ P rest t bounded h l.
     let a = c.args in
     c.is_same.ensures
     ∙ path-same P rest t a.store.now bounded h a.number l a.path.now _ _
-    (omega (arith, c.wide-2.ensures.0, c.wide.ensures.0, path-place P rest t a.store.now bounded h a.number l))
-    (c.wide-size.ensures.0 ∙ path-size P rest t a.store.now bounded h a.number l)
+    (omega (arith, path-place P rest t a.store.now bounded h a.number l))
+    (c.from-size.ensures ∙ path-size P rest t a.store.now bounded h a.number l)
     c.if-path-size.false

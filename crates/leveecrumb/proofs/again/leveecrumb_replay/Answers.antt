@@ -1,11 +1,14 @@
--- `leveecrumb_replay` meets its contract: the opening, the walk of its records and the closing, each from the call that gave it.
-use Rattle.ask.specs.Ask.{Asked}
-use Rattle.leveecrumb.proofs.Replays as replays
+-- `leveecrumb_replay` meets its contract: the load and the walk of its records, each from the call that gave it.
+use Rattle.std.specs.Prelude.{refl}
+use Rattle.policy.proofs.Numbers.{some_number}
+use Rattle.ask.specs.Ask.{asked_of}
+use Rattle.leveecrumb.proofs.Replays.{ends_refused, ends_told}
 use Rattle.leveecrumb.proofs.again.leveecrumb_replay.Goals as goal
 
-pub returns : goal.returns
-returns c =
-    let a = c.args in
-    let asked : Asked = record { uid = a.uid; gid = a.gid; start = a.start.now; target = a.target.now; kind = a.kind } in
-    replays.ends a.text.now asked a.steps.now a.store.now c.opening-o.result c.opening-o.new.store c.replay_loaded-v.result c.closing.result
-    c.opening-o.ensures c.replay_loaded-v.ensures c.closing.ensures
+pub returns-in-Ok : goal.returns-in-Ok
+returns-in-Ok c =
+    rw c.into.ensures (ends_told c.args.text.now (asked_of c.args.asked) c.args.steps.now c.args.store.now _ _ _ c.in-Ok.ensures refl _ c.replay_loaded.ensures)
+
+pub returns-in-Err : goal.returns-in-Err
+returns-in-Err c =
+    rw c.into-in-Err.ensures (ends_refused c.args.text.now (asked_of c.args.asked) c.args.steps.now c.args.store.now _ _ _ c.in-Err.ensures (some_number _))

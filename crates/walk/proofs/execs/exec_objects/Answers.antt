@@ -11,13 +11,13 @@ pub loop-i-preserved : goal.loop-i-preserved
 loop-i-preserved c =
     let a = c.args in
     let l = c.loop-i in
-    let inside = inside_object a.store.now a.t.now c.requires.1.0 a.entry l.i in
+    let inside = inside_object a.given.store.now a.given.tables.now c.requires.1.0 a.entry l.i in
     let is = c.exec_object-done.ensures in
-    (turns l.invariant.0 c.loop-i-test.true inside is, λ again. entry_on l.invariant.0.going (goal_at a.t.now a.z) (object_step a.store.now a.t.now a.z a.d a.entry l.i) inside is (l.invariant.1 again))
+    (turns l.invariant.0 c.loop-i-test.true inside is, λ again. entry_on l.invariant.0.going (goal_at a.given.tables.now a.given.sizes) (object_step a.given.store.now a.given.tables.now a.given.sizes a.d a.entry l.i) inside is (l.invariant.1 again))
 
 pub returns : goal.returns
 unfolding object_steps
 returns c =
     let a = c.args in
-    visits_as (goal_at a.t.now a.z) a.p (walk_of a.area.now a.w) (ends c.loop-i.invariant.0 c.loop-i-test.false)
-    (ap (flat (object_step a.store.now a.t.now a.z a.d a.entry) 0) c.object_count-count.ensures)
+    visits_as (goal_at a.given.tables.now a.given.sizes) a.given.place (walk_of a.area.now a.w) (ends c.loop-i.invariant.0 c.loop-i-test.false)
+    (ap (flat (object_step a.given.store.now a.given.tables.now a.given.sizes a.d a.entry) 0) c.object_count-count.ensures)

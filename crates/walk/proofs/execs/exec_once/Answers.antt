@@ -8,7 +8,7 @@ use Rattle.walk.proofs.execs.exec_once.Goals as goal
 pub returns-then-allows_kept : goal.returns-then-allows_kept
 returns-then-allows_kept c =
     let a = c.args in (
-      opened-again c.requires.1.1 c.requires.0 (goal_at a.t.now a.z) a.d c.requires.1.0 a.entry (omega arith) c.if-again.true (sym c.allows_kept.ensures ∙ c.if-allows_kept.true),
+      opened-again c.requires.1.1 c.requires.0 (goal_at a.given.tables.now a.given.sizes) a.d c.requires.1.0 a.entry (omega arith) (rw c.from.ensures at c.if-again.true) (sym c.allows_kept.ensures ∙ c.if-allows_kept.true),
       c.requires.1.1,
     )
 
@@ -16,4 +16,4 @@ pub returns : goal.returns
 returns c =
     let a = c.args in
     let done = c.exec_objects.ensures in
-    (done, opened_more c.requires.1.1 c.requires.0 (goal_at a.t.now a.z) a.d c.requires.1.0 a.entry (omega arith) done)
+    (done, rw c.from.ensures (opened_more c.requires.1.1 c.requires.0 (goal_at a.given.tables.now a.given.sizes) a.d c.requires.1.0 a.entry (omega arith) done))

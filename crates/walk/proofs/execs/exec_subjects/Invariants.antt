@@ -1,5 +1,4 @@
--- `execs::exec_subjects` meets its contract, by the laws of a loop that visits steps. The measure is what is left of the image.
-use Prim.Native.Nat.{◌-◌}
+-- `execs::exec_subjects` meets its contract, by the laws of a loop that visits steps.
 use lib.ListN.{length}
 use Rattle.numbered.specs.Candidates.{goal_at}
 use Rattle.walk.specs.Needed.{walk_of}
@@ -8,7 +7,4 @@ use Rattle.walk.proofs.Images.{at, to_subject}
 use Rattle.walk.proofs.execs.exec_subjects.Given as goal
 
 abbrev pub invariant-loop-k : goal.invariant-loop-k
-invariant-loop-k l = Left l.z (goal_at l.t l.z) l.p (at (to_subject l.c l.base) l.image) (length l.image) (walk_of l.initial.area l.initial.done) (walk_of l.area l.done) l.k
-
-abbrev pub decreases-loop-k : goal.decreases-loop-k
-decreases-loop-k l = length l.image - l.k
+invariant-loop-k l = Left l.given.sizes (goal_at l.given.tables.now l.given.sizes) l.given.place (at (to_subject l.fn.x.place l.base) l.image) (length l.image) (walk_of l.initial.area l.initial.done) (walk_of l.area l.done) l.k-index
