@@ -7,19 +7,6 @@ ghost use Rattle.std.specs.Prelude.{◌≤◌};
 use gran::Asked;
 use std::io::{self, Write};
 
-// Areas of which no content matters.
-fn fresh_work() -> [u16; 24576] {
-    [0u16; 24576]
-}
-
-fn fresh_store() -> [u8; 16384] {
-    [0u8; 16384]
-}
-
-fn fresh_room() -> [u8; 128] {
-    [0u8; 128]
-}
-
 // Asks for the account's access to /etc/ntp/ and writes what is printed.
 fn show<W: Write>(
     text: &[u8],
@@ -28,8 +15,8 @@ fn show<W: Write>(
     kind: u8,
     printed: &mut W,
 ) -> io::Result<()> {
-    let mut store = fresh_store();
-    let mut work = fresh_work();
+    let mut store = [0u8; 16384];
+    let mut work = [0u16; 24576];
     let asked = Asked {
         uid,
         gid: 100,
@@ -55,7 +42,7 @@ fn show_in<W: Write>(
 ) -> io::Result<()>
     requires { length ≤ 128 }
 {
-    let mut room = fresh_room();
+    let mut room = [0u8; 128];
     show(text, &mut room[..length], uid, kind, printed)
 }
 
