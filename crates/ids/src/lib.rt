@@ -1,5 +1,5 @@
 // Roles and ids in a loaded store: the role of an id, the special roles that a role may take, the ids that an entry allows. Rests on `lookup` and what that rests on.
-// What a reader must believe stands in gran's specs/; specs/Ids.antt says what the loops find.
+// What a reader must believe stands in gran's specs/, and in specs/Ids.antt: whose ids are meant (`kind_of`, `allowed_of`), and what the loops find.
 #![tactic(auto)]
 
 ghost use Rattle.std.specs.Prelude.{◌≡◌, List, ℕ, ◌≤◌, ◌<◌, length};
@@ -91,6 +91,7 @@ struct Allowed<'a> {
     entry: u8,
 }
 
+// The methods that a search of ids goes through are in line: where the length of the store is known, a call would hand it on unknown, in a struct.
 impl<'a> Allowed<'a> {
     fn mode(self) -> u8
         ensures { result ≡ (allowed_read self.entry.store.now self.entry.kind self.entry.entry).mode }
@@ -116,6 +117,7 @@ impl<'a> Allowed<'a> {
 
     // The listed id at place `i`.
     #[tactic(auto, unfolding(crate::specs::Ids::id_at))]
+    #[inline(always)]
     fn at(self, i: u8) -> u32
         ensures { result ≡ id_at self.entry.store.now self.entry.kind self.entry.entry i }
     {
@@ -127,6 +129,7 @@ impl<'a> Allowed<'a> {
     }
 
     // Whether the id is listed.
+    #[inline(always)]
     fn lists(self, id: u32) -> bool
         ensures { result ≡ member id (allowed_read self.entry.store.now self.entry.kind self.entry.entry).ids }
     {
@@ -135,6 +138,7 @@ impl<'a> Allowed<'a> {
 
     // Whether the id is allowed.
     #[tactic(auto, unfolding(gran::specs::Role::allows))]
+    #[inline(always)]
     fn allows(self, id: u32) -> bool
         ensures { result ≡ allows (allowed_read self.entry.store.now self.entry.kind self.entry.entry) id }
     {
@@ -142,6 +146,7 @@ impl<'a> Allowed<'a> {
     }
 
     // Whether the id is allowed, and has no role of the kind.
+    #[inline(always)]
     fn is_free(self, id: u32) -> bool
         ensures { (P : Policy) (rest : List ℕ) → Loaded P rest self.entry.store.now → self.entry.entry < length P.entries → result ≡ is_free P self.entry.kind (allowed_of self.entry.kind (entry_at P self.entry.entry)) id }
     {
@@ -161,6 +166,7 @@ impl<'a> Allowed<'a> {
     }
 
     #[tactic(auto, unfolding(crate::specs::Ids::candidate_at))]
+    #[inline(always)]
     fn candidate(self, i: u8) -> u32
         ensures { result ≡ candidate_at self.entry.store.now self.entry.kind self.entry.entry i }
     {
@@ -173,6 +179,7 @@ impl<'a> Allowed<'a> {
 
     // Candidate `i` where it is free, else the id that names nobody.
     #[tactic(auto, unfolding(crate::specs::Ids::offered))]
+    #[inline(always)]
     fn free_at(self, i: u8) -> u32
         ensures { (P : Policy) (rest : List ℕ) → Loaded P rest self.entry.store.now → self.entry.entry < length P.entries → result ≡ offered P self.entry.kind (allowed_of self.entry.kind (entry_at P self.entry.entry)) (candidate_at self.entry.store.now self.entry.kind self.entry.entry) i }
     {
@@ -181,6 +188,7 @@ impl<'a> Allowed<'a> {
     }
 
     // The smallest allowed id that has no role of the kind, or the one that names nobody.
+    #[inline(always)]
     fn least_free(self) -> u32
         ensures { (P : Policy) (rest : List ℕ) → Loaded P rest self.entry.store.now → self.entry.entry < length P.entries → length (roles_of P self.entry.kind) ≤ 15 → result ≡ free_id P self.entry.kind (allowed_of self.entry.kind (entry_at P self.entry.entry)) }
     {

@@ -87,7 +87,7 @@ pub fn refusal(
     ensures { Answers loading.entry.tally loading.entry.bytes.now (λ (P : Policy). Noted P marks.now → number_in result ≡ frame_refusal (load_of last lines P) (frame_in size bytes.now)) }
 {
     let code = frame::byte(bytes, 0);
-    if !FrameType::try_from(code)?.fits(size - 1) {
+    if !frame::fits_type(code, size - 1) {
         return Err(Refusal::BadFrame);
     }
     if !frame::may_follow(last, code) {

@@ -1,6 +1,7 @@
 // Loads a policy's text, line by line, into a lent store, or gives a refusal with its line.
 // Rests on `lines`, `rows`, `store`, `writing`, `policy`, `judge` and `ending`. What a reader must believe stands in `policy`'s
-// specs/Load.antt: `LoadedAs`. The promises of the steps between stand in specs/Step.antt.
+// specs/Load.antt: `LoadedAs`, and in its specs/Refused.antt: the number and the line of what comes back. The promises of the steps
+// between stand in specs/Step.antt.
 #![tactic(auto)]
 
 ghost use Rattle.std.specs.Prelude.{◌≤◌, ◌<◌, length, ◌≡◌};

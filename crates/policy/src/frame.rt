@@ -22,12 +22,12 @@ pub enum FrameType {
     End = 0x7f,
 }
 
-// A type with its shortest and longest payload.
+// A type with its shortest and longest payload. Bytes all: 27 of them for the whole table, which each frame is held to.
 #[derive(Clone, Copy)]
 struct FrameForm {
     code: u8,
-    shortest: usize,
-    longest: usize,
+    shortest: u8,
+    longest: u8,
 }
 
 // Consulted before any field is read. By the byte, as `fits_type` and the definition `frame_table` have it.
@@ -112,13 +112,7 @@ impl FrameType {
     pub fn fits(self, size: usize) -> bool
         ensures { result ≡ fits_table frame_table (type_code self) size }
     {
-        let code = self.code();
-        for form in &FRAME_TYPES {
-            if form.code == code {
-                return form.shortest <= size && size <= form.longest;
-            }
-        }
-        false
+        fits_type(self.code(), size)
     }
 }
 
@@ -146,14 +140,15 @@ pub fn number4(bytes: &[u8], at: u8) -> u32
 }
 
 // Whether the table has the type, with a payload of this size.
-#[tactic(auto, unfolding(crate::specs::Frames::fits_table))]
 pub fn fits_type(kind: u8, size: usize) -> bool
     ensures { result ≡ fits_table frame_table kind size }
 {
-    match FrameType::try_from(kind) {
-        Ok(known) => known.fits(size),
-        Err(_) => false,
+    for form in &FRAME_TYPES {
+        if form.code == kind {
+            return usize::from(form.shortest) <= size && size <= usize::from(form.longest);
+        }
     }
+    false // no row has the type
 }
 
 // Whether a frame of type `kind` may follow one of type `last`, 0 at the start. Numbers, since `judge::refusal` answers for any byte as the last type.

@@ -1,6 +1,7 @@
 // The store: how a policy lies in 16,384 lent bytes, and the tallies that a loader keeps while it fills them.
 // Rests on `paths`, `lines`, `rows` and `gran`. What a reader must believe stands in specs/: `layout` (Layout.antt), `Holds` and
-// the tallies (Held.antt), and a policy with one thing more (Grow.antt). The laws in proofs/ serve those who write and read.
+// the tallies (Held.antt), a policy with one thing more (Grow.antt), and the kinds of roles by their bytes (Kind.antt). The laws in proofs/
+// serve those who write and read.
 #![tactic(auto)]
 
 ghost use Rattle.std.specs.Prelude.{◌≡◌};
