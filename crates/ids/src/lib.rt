@@ -91,7 +91,7 @@ struct Allowed<'a> {
     entry: u8,
 }
 
-// The methods that a search of ids goes through are in line: where the length of the store is known, a call would hand it on unknown, in a struct.
+// From the listed ids up to the least free one all is in line: where the length of the store is known, a call would read it from this struct.
 impl<'a> Allowed<'a> {
     fn mode(self) -> u8
         ensures { result ≡ (allowed_read self.entry.store.now self.entry.kind self.entry.entry).mode }

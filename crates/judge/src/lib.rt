@@ -74,7 +74,7 @@ impl Loading<'_> {
 // The lowest refusal of a frame after so many lines, of which the last had the type `last`.
 // Each test looks at the type itself: compiled, all do so by the one byte, as they would not by a type that is handed on.
 // `size` and `bytes` stay two, as in `frame_in`: a value of both would leave the bounds of 80 and 1,024 to be asked beside it.
-#[tactic(auto, unfolding(policy::specs::Load::frame_refusal, policy::specs::Frames::fits_table, policy::specs::Frames::is_full))]
+#[tactic(auto, unfolding(policy::specs::Load::frame_refusal, policy::specs::Frames::is_full))]
 pub fn refusal(
     loading: Loading,
     marks: &[u8],
